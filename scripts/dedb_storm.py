@@ -3,6 +3,7 @@
 
     scripts/dedb_storm.py           writes the files
     scripts/dedb_storm.py --check   tells whether they are what it would write
+    scripts/dedb_storm.py --count   tells how often each kind of call is answered by each status
 
 It reads nothing that the product wrote. The rules of calls to data entry databases are written down here once more, in
 another language: a database is one whole list of segments, each with its path, and a get goes through all of them.
@@ -296,38 +297,57 @@ def written():
     draw = Draw()
     lines = []
     counts = {kind: dict.fromkeys(STATUSES, 0) for kind in KINDS}
-    for _ in range(TRANSACTIONS):
+    for number in range(TRANSACTIONS):
         databases = [Database(TREE, lambda key: fold(key, 5)), Database(LINE, lambda key: in_range(key, 4))]
-        lines.append("begin")
+        lines.append(f"begin transaction {number}")
         for _ in range(CALLS):
             db = draw.below(2)
             kind, ssas, text = draw.call(db, databases[db])
             status, shown = answered(databases[db], kind, ssas, text)
             counts[kind][status] += 1
-            found = "-" if shown is None else f"{shown[0]}:{shown[1]}"
-            lines.append(f"{db} {kind} {shown_ssas(ssas)} {text or '-'} {status.replace(' ', '_')} {found}")
-        lines.append(f"queued {len(databases[0].queued) + len(databases[1].queued)}")
+            found = "" if shown is None else f" {shown[0]}:{shown[1]}"
+            lines.append(f"{db} {kind} {shown_ssas(ssas)} {text or '-'} => {status.replace(' ', '_')}{found}")
+        lines.append(f"queued => {len(databases[0].queued) + len(databases[1].queued)}")
     return lines, counts
 
 
-def printed(counts):
-    rows = []
+def verdict(name, lines):
+    """What the program prints of a file of which no line differs."""
+    scenarios = sum(line.startswith("begin ") for line in lines)
+    return f"{name}: {scenarios} scenarios, {len(lines) - scenarios} steps, 0 differ"
+
+
+def printed(lines):
+    """The calls and the scenarios that were written by hand, in each way that they are asked."""
+    customers = (CRATE / "data" / "customers.txt").read_text().splitlines()
+    turns = (CRATE / "data" / "turns.txt").read_text().splitlines()
+    return [
+        verdict("calls.txt by dedb_calls", lines), verdict("calls.txt by past_calls", lines),
+        verdict("customers.txt by dedb_calls", customers), verdict("customers.txt by past_calls", customers),
+        verdict("turns.txt by dli_calls", turns), "0 without memory",
+    ]
+
+
+def counted(counts):
+    """How often each kind of call was answered by each status."""
     for kind, by in counts.items():
         words = [f"{'blank' if status == '  ' else status} {count}" for status, count in by.items() if count]
-        rows.append(f"{kind} {sum(by.values())}: {', '.join(words)}")
-    return rows + [f"{TRANSACTIONS * CALLS} calls in {TRANSACTIONS} transactions, 0 differ"]
+        print(f"{kind} {sum(by.values())}: {', '.join(words)}")
 
 
 def main():
-    if sys.argv[1:] not in [[], ["--check"]]:
-        print("usage: dedb_storm.py [--check]")
+    if sys.argv[1:] not in [[], ["--check"], ["--count"]]:
+        print("usage: dedb_storm.py [--check | --count]")
         return 2
     lines, counts = written()
+    if sys.argv[1:] == ["--count"]:
+        counted(counts)
+        return 0
     differ = 0
     texts = {
         CRATE / "data" / "defs.toml": DEFINITIONS,
         CRATE / "data" / "calls.txt": "".join(f"{line}\n" for line in lines),
-        CRATE / "stdout": "".join(f"{row}\n" for row in printed(counts)),
+        CRATE / "stdout": "".join(f"{row}\n" for row in printed(lines)),
     }
     for path, text in texts.items():
         if not sys.argv[1:]:

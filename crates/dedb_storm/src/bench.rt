@@ -1,4 +1,4 @@
-//! A transaction of the only region, which begins on empty databases.
+//! A transaction of the only region, which begins on empty databases: calls to `dedb_calls`.
 ghost use Rattle.dedb_storm.specs.Bench.{IsUnderWay};
 ghost use Rattle.dedb_calls.specs.Calls.{FitsCallOn};
 ghost use Rattle.fp_exits.specs.Kinds.{has_kind, kinds_of};
@@ -57,7 +57,7 @@ fn fits_at(defs: &Defs, number: u8, work: &DedbWork, call: &Call) -> bool
         → FitsCallOn def number work.now call.now }
 {
     let def = &defs.dedbs.as_slice()[usize::from(number)];
-    fits_call(def, number, work, call)
+    fits_call(def, number, work.held_type(number), call)
 }
 
 /// Asks a call once.
@@ -88,7 +88,7 @@ fn ask_once(
     Ok(answer(alloc, work, call, number, defs, exits, &locks)?)
 }
 
-/// Asks a call once, and gains the lock that it needs.
+/// Asks a call once, and gains the lock that it needs, whose anchor is put behind those before.
 fn turn(
     alloc: Global,
     work: &mut DedbWork,
@@ -97,6 +97,7 @@ fn turn(
     call: &Call,
     defs: &Defs,
     exits: &Exits,
+    needed: &mut Vec<u32>,
 ) -> Result<Option<Answer>, Fault>
     requires defs { AllByRecursion IsDedbDef defs.now.dedbs }
     requires some { number < length defs.now.dedbs }
@@ -110,6 +111,7 @@ fn turn(
         DedbReady::Answer(answer) => Ok(Some(answer)),
         DedbReady::Need { anchor, mode } => {
             gain(alloc, work, locks, number, anchor, mode, defs)?;
+            needed.push(anchor)?;
             Ok(None)
         }
     }
@@ -124,6 +126,7 @@ pub(crate) fn ask(
     call: &Call,
     defs: &Defs,
     exits: &Exits,
+    needed: &mut Vec<u32>,
 ) -> Result<Answer, Fault>
     requires defs { AllByRecursion IsDedbDef defs.now.dedbs }
     requires some { number < length defs.now.dedbs }
@@ -134,7 +137,7 @@ pub(crate) fn ask(
     ensures { IfOk result (λ answer. IsUnderWay defs.now.dedbs work.new locks.new) }
 {
     for _ in 0..20u8 {
-        if let Some(answer) = turn(alloc, work, locks, number, call, defs, exits)? {
+        if let Some(answer) = turn(alloc, work, locks, number, call, defs, exits, needed)? {
             return Ok(answer);
         }
     }

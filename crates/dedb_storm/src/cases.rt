@@ -1,35 +1,22 @@
-//! The lines of the file.
+//! Calls as the files write them, and what comes of one.
 //!
-//!     file  = { "begin" newline { call newline } "queued " number newline }
-//!     call  = database " " kind " " ssas " " bytes " " status " " shown
-//!     ssas  = "-" | ssa { "," ssa }        ssa = type [ "=" key ]
-//!     bytes = "-" | text                   status = two letters, "_" for a blank
-//!     shown = "-" | type ":" text
+//!     call = kind " " ssas " " bytes
+//!     ssas = "-" | ssa { "," ssa }        ssa = type [ "=" bytes ]
+//!     came = status [ " " type ":" bytes ]
+//!
+//! A kind is its name, as GHU; bytes that a call hasn't are "-".
 
 use crate::fault::Fault;
+use crate::texts::{bytes_of, put_bytes};
 use fp_model::{Answer, Bytes, Call, Get, List, Ssa};
-use std::alloc::Global;
+use std::alloc::{AllocError, Global};
 
-/// A call, and what it is to be answered.
-#[derive(Debug, Drop)]
-pub(crate) struct Case<'a> {
-    /// The number of its database.
-    pub(crate) number: u8,
-    pub(crate) kind: &'a str,
-    pub(crate) call: Call,
-    status: &'a str,
-    shown: &'a str,
-}
-
-fn number_of(text: &str) -> Result<u8, Fault> {
+/// The number that a text of digits is.
+pub(crate) fn number_of(text: &str) -> Result<u8, Fault> {
     match text.parse::<u8>() {
         Ok(number) => Ok(number),
         Err(_) => Err(Fault::NotRead),
     }
-}
-
-fn bytes_of(alloc: Global, text: &str) -> Result<Bytes, Fault> {
-    Ok(Bytes::from_slice(alloc, text.as_bytes())?)
 }
 
 fn ssa_of(alloc: Global, word: &str) -> Result<Ssa, Fault> {
@@ -68,7 +55,8 @@ fn get_of(kind: &str) -> Option<(Get, bool)> {
     }
 }
 
-fn call_of(alloc: Global, db: u8, kind: &str, ssas: &str, text: &str) -> Result<Call, Fault> {
+// The call of a kind to the database of this number.
+fn call_of_kind(alloc: Global, db: u8, kind: &str, ssas: &str, text: &str) -> Result<Call, Fault> {
     if let Some((get, hold)) = get_of(kind) {
         let ssas = ssas_of(alloc, ssas)?;
         return Ok(Call::Get {
@@ -98,45 +86,39 @@ fn call_of(alloc: Global, db: u8, kind: &str, ssas: &str, text: &str) -> Result<
     }
 }
 
-impl<'a> Case<'a> {
-    /// The case of a line.
-    pub(crate) fn of(alloc: Global, line: &'a str) -> Result<Case<'a>, Fault> {
-        let mut words = line.split(' ');
-        let number = number_of(words.next().unwrap_or(""))?;
-        let kind = words.next().unwrap_or("");
-        let ssas = words.next().unwrap_or("");
-        let text = words.next().unwrap_or("");
-        Ok(Case {
-            number,
-            kind,
-            call: call_of(alloc, number, kind, ssas, text)?,
-            status: words.next().unwrap_or(""),
-            shown: words.next().unwrap_or(""),
-        })
-    }
-
-    /// Whether an answer is as wanted.
-    pub(crate) fn is_answered(&self, answer: &Answer) -> bool {
-        is_status(self.status, &answer.status)
-            && is_shown(self.shown, answer)
-            && answer.letters.is_empty()
-    }
+/// The call of a text to the database of this number.
+pub(crate) fn call_of(alloc: Global, db: u8, text: &str) -> Result<Call, Fault> {
+    let mut words = text.split(' ');
+    let kind = words.next().unwrap_or("");
+    let ssas = words.next().unwrap_or("");
+    let bytes = words.next().unwrap_or("");
+    call_of_kind(alloc, db, kind, ssas, bytes)
 }
 
-fn is_status(text: &str, status: &[u8; 2]) -> bool {
-    if text == "__" {
-        *status == *b"  "
-    } else {
-        text.as_bytes() == status.as_slice()
+/// What comes of a call that is answered, as a text of the file. Calls to these databases have no letters.
+pub(crate) fn came_of(alloc: Global, answer: &Answer) -> Result<String, AllocError> {
+    let mut text = String::new(alloc);
+    put_bytes(alloc, &mut text, &answer.status)?;
+    if answer.segment != 0 || !answer.bytes.is_empty() {
+        let segment = answer.segment;
+        text.push_str(&format!(in alloc; " {segment}:")?)?;
+        put_bytes(alloc, &mut text, answer.bytes.as_slice())?;
     }
+    if !answer.letters.is_empty() {
+        text.push_str(" letters ")?;
+        put_bytes(alloc, &mut text, answer.letters.as_slice())?;
+    }
+    Ok(text)
 }
 
-fn is_shown(text: &str, answer: &Answer) -> bool {
-    match text.split_once(':') {
-        Some((segment, bytes)) => {
-            segment.parse::<u8>() == Ok(answer.segment)
-                && answer.bytes.as_slice() == bytes.as_bytes()
+/// Numbers with commas between them.
+pub(crate) fn numbers_text(alloc: Global, numbers: &[u32]) -> Result<String, AllocError> {
+    let mut text = String::new(alloc);
+    for number in numbers {
+        if !text.is_empty() {
+            text.push(',')?;
         }
-        None => answer.segment == 0 && answer.bytes.is_empty(),
+        text.push_str(&number.to_string(alloc)?)?;
     }
+    Ok(text)
 }

@@ -1,11 +1,13 @@
 //! Whether a call fits a database: the condition of answering it.
 ghost use Rattle.dedb_calls.specs.Calls.{FitsCallOn};
+ghost use Rattle.dedb_calls.specs.Progress.{DedbProgress, held_in};
+ghost use Rattle.fp_model.specs.DedbCalls.{type_of_path};
+ghost use Rattle.fp_model.specs.Calls.{database_of};
 ghost use Rattle.fp_model.specs.FitCalls.{AreFitSsas, FitsSsa};
 ghost use Rattle.fp_model.specs.Order.{last_type};
 ghost use Rattle.fp_model.specs.Shape.{has_length};
-ghost use Rattle.std.specs.Prelude.{◌≡◌, ◌<◌, ◌∷◌, IsTrue, length};
+ghost use Rattle.std.specs.Prelude.{◌≡◌, IsTrue, option_map};
 
-use dedb_calls::DedbWork;
 use fp_model::{Call, DedbDef, SegDef, Ssa, key_length};
 
 fn has_length(types: &[SegDef], segment: u8, bytes: &[u8]) -> bool
@@ -53,10 +55,11 @@ fn last_type(segment: u8, ssas: &[Ssa]) -> u8
     }
 }
 
-/// Whether a call fits the database of a number, by what is held there.
-pub(crate) fn fits_call(def: &DedbDef, number: u8, work: &DedbWork, call: &Call) -> bool
-    requires { number < length work.now.positions }
-    ensures { IsTrue result → FitsCallOn def.now number work.now call.now }
+/// Whether a call fits the database of a number, where a segment of this type is held there, or none is.
+pub(crate) fn fits_call(def: &DedbDef, number: u8, held: Option<u8>, call: &Call) -> bool
+    ensures { IsTrue result → (work : DedbProgress)
+        → held ≡ option_map (λ place. type_of_path def.now number place.path) (held_in work number)
+        → FitsCallOn def.now number work call.now }
 {
     let types = def.segments.as_slice();
     match call {
@@ -65,10 +68,23 @@ pub(crate) fn fits_call(def: &DedbDef, number: u8, work: &DedbWork, call: &Call)
             let ssas = ssas.as_slice();
             fit(types, ssas) && has_length(types, last_type(0, ssas), bytes.as_slice())
         }
-        Call::Repl { bytes, .. } => match work.held_type(number) {
+        Call::Repl { bytes, .. } => match held {
             Some(segment) => has_length(types, segment, bytes.as_slice()),
             None => true,
         },
         Call::Fld { .. } | Call::Dlet { .. } => true,
+    }
+}
+
+/// The database that a call names.
+pub(crate) fn database_of(call: &Call) -> u8
+    ensures { result ≡ database_of call.now }
+{
+    match call {
+        Call::Get { db, .. }
+        | Call::Fld { db, .. }
+        | Call::Isrt { db, .. }
+        | Call::Repl { db, .. }
+        | Call::Dlet { db } => *db,
     }
 }

@@ -1,42 +1,84 @@
-//! A storm of calls to data entry databases: drawn ones, whose answers a second program worked out.
+//! Calls to data entry databases, as files have them: drawn ones, whose answers a second program worked out, and
+//! scenarios whose answers were worked out by hand.
 //!
-//! `data/defs.toml` has the databases and `data/calls.txt` the calls with their answers (`cases`). The program prints
-//! how often each kind of call was answered by each status, and how many calls were answered otherwise than wanted. The
-//! second program counts what it worked out, so the counts are its own. `README.md` has the form of the file.
+//! The program prints a line for each file and way of asking: how many lines it judged and how many came out otherwise
+//! than wanted, with what came of the first ten of these before it. `README.md` has the form of the files.
 #![tactic(auto)]
 
+mod alone;
+mod bank;
 mod bench;
 mod cases;
-mod counts;
+mod ending;
 mod fault;
 mod fitting;
 mod judging;
+mod live;
+mod tally;
+mod texts;
 
 ghost use Rattle.fp_exits.specs.Ranges.{IsRoutable, IsSpreadable};
 ghost use Rattle.fp_model.specs.Exits.{route, spread};
 ghost use Rattle.std.specs.Prelude.{◌≡◌};
 
-use counts::Counts;
 use fault::Fault;
 use fp_exits::{Exits, Router, Routing, Spreader, Spreading, fold_group, fold_place, range_place};
 use fp_model::{Kind, Name};
+use judging::{Asked, Way};
 use std::alloc::Global;
+use std::cell::Cell;
 use std::fs::File;
 use std::io;
 use std::io::Read;
+use std::rc::Rc;
 
-const DEFINITIONS: &str = "defs.toml";
-
-const CALLS: &str = "calls.txt";
+// Files of lines with their definitions, and how the lines are asked.
+const FILES: &[(&str, Way, &str, &str)] = &[
+    (
+        "calls.txt by dedb_calls",
+        Way::Locked,
+        "defs.toml",
+        "calls.txt",
+    ),
+    (
+        "calls.txt by past_calls",
+        Way::Alone,
+        "defs.toml",
+        "calls.txt",
+    ),
+    (
+        "customers.txt by dedb_calls",
+        Way::Locked,
+        "customers.toml",
+        "customers.txt",
+    ),
+    (
+        "customers.txt by past_calls",
+        Way::Alone,
+        "customers.toml",
+        "customers.txt",
+    ),
+    (
+        "turns.txt by dli_calls",
+        Way::Turns,
+        "bank.toml",
+        "turns.txt",
+    ),
+];
 
 fn main(rt: HostRuntime) -> io::Result<()> {
-    // Exits of both kinds that keys are spread by, and one router.
+    // Exits of both kinds that keys are spread by, the first of which counts its calls, and one router.
+    let randomized = Rc::new(rt.alloc(), Cell::new(0u64))?;
+    let counted = randomized.clone()?;
     let fold: Spreading = Box::new(
         rt.alloc(),
-        |key: &[u8], n: u64| -> u64
+        move |key: &[u8], n: u64| -> u64
             requires { IsSpreadable key.now n }
             ensures { result ≡ spread Kind.Fold n key.now }
-        { fold_place(key, n) },
+        {
+            counted.set(counted.get().wrapping_add(1));
+            fold_place(key, n)
+        },
     )?;
     let range: Spreading = Box::new(
         rt.alloc(),
@@ -58,21 +100,50 @@ fn main(rt: HostRuntime) -> io::Result<()> {
     let mut routers = Vec::new(rt.alloc());
     routers.push(Router::new(Kind::Fold, group))?;
     let exits = Exits::new(spreaders, routers);
-    judge(&rt, &exits)
+    judge_all(&rt, &exits, &randomized)
 }
 
-// Judges the calls of the file, and prints the counts.
-fn judge(rt: &HostRuntime, exits: &Exits) -> io::Result<()> {
-    let definitions = read_file(rt, rt.alloc(), DEFINITIONS)?;
-    let calls = read_file(rt, rt.alloc(), CALLS)?;
-    let Ok(calls) = str::from_utf8(&calls) else {
-        return Err(io::ErrorKind::InvalidData.into());
-    };
-    match judging::judged(rt.alloc(), &definitions, calls, exits) {
-        Ok(counts) => print(rt, &counts),
-        Err(Fault::Memory) => Err(io::ErrorKind::OutOfMemory.into()),
+// Judges each file, and says how many of them memory was wanting for.
+fn judge_all(rt: &HostRuntime, exits: &Exits, randomized: &Cell<u64>) -> io::Result<()> {
+    let mut lacking = 0u64;
+    for (name, way, definitions, lines) in FILES {
+        let definitions = read_file(rt, rt.alloc(), definitions)?;
+        let bytes = read_file(rt, rt.alloc(), lines)?;
+        let Ok(lines) = str::from_utf8(&bytes) else {
+            return Err(io::ErrorKind::InvalidData.into());
+        };
+        let asked = Asked {
+            name,
+            way: *way,
+            definitions: &definitions,
+            lines,
+        };
+        if !judge(rt, &asked, exits, randomized)? {
+            lacking = lacking.saturating_add(1);
+        }
+    }
+    println!(rt; "{lacking} without memory")
+}
+
+// Judges the lines of a file, and prints what came of them. False where there was no memory.
+fn judge(
+    rt: &HostRuntime,
+    asked: &Asked<'_>,
+    exits: &Exits,
+    randomized: &Cell<u64>,
+) -> io::Result<bool> {
+    match judging::judged(rt.alloc(), asked, exits, randomized) {
+        Ok(tally) => {
+            for line in tally.told() {
+                println!(rt; "{line}")?;
+            }
+            let verdict = tally.verdict(rt.alloc())?;
+            println!(rt; "{verdict}")?;
+            Ok(true)
+        }
+        Err(Fault::Memory) => Ok(false),
         Err(fault) => {
-            println!(rt; "{fault:?}")?;
+            println!(rt; "{}: {fault:?}", asked.name)?;
             Err(io::ErrorKind::InvalidData.into())
         }
     }
@@ -91,12 +162,4 @@ fn read_file(rt: &HostRuntime, alloc: Global, name: &str) -> io::Result<Vec<u8>>
         bytes.extend_from_slice(&block[..count])?;
     }
     Ok(bytes)
-}
-
-// A line for each kind of call, and one for all.
-fn print(rt: &HostRuntime, counts: &Counts) -> io::Result<()> {
-    for line in counts.lines(rt.alloc())? {
-        println!(rt; "{line}")?;
-    }
-    Ok(())
 }

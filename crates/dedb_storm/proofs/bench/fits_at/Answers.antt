@@ -5,12 +5,12 @@ use Rattle.dedb_calls.proofs.ArgumentLemmas.{indexed}
 use Rattle.dedb_storm.proofs.Benches.{some_is}
 use Rattle.dedb_storm.proofs.bench.fits_at.Goals as goal
 
-pub fits_call-requires : goal.fits_call-requires
-fits_call-requires c = omega (arith, c.requires.some, c.requires.positions)
+pub held_type-requires : goal.held_type-requires
+held_type-requires c = omega (arith, c.requires.some, c.requires.positions)
 
 pub returns : goal.returns
 returns c fits def at =
     let here = indexed c.args.defs.now.dedbs c.as_slice.result.now c.index-as_slice-from.result c.args.number c.from.result
     c.as_slice.ensures c.from.ensures c.index-as_slice-from.is c.requires.some in
     subst (λ (d : DedbDef). FitsCallOn d c.args.number c.args.work.now c.args.call.now)
-    (some_is c.index-as_slice-from.result def (sym here ∙ at)) (c.fits_call.ensures fits)
+    (some_is c.index-as_slice-from.result def (sym here ∙ at)) (c.fits_call.ensures fits c.args.work.now (c.held_type.ensures c.index-as_slice-from.result))

@@ -1,4 +1,4 @@
-use Rattle.std.proofs.Common.{◌≡◌, ◌∙◌, ℕ, List, Option, Some, None, sym, ap, subst, true}
+use Rattle.std.proofs.Common.{◌∙◌, ℕ, List, Option, sym, ap, subst}
 use Rattle.std.specs.Prelude.{option_map}
 use Rattle.fp_model.specs.DedbCalls.{type_of_path}
 use Rattle.fp_model.specs.Order.{Place}
@@ -9,9 +9,9 @@ use Rattle.dedb_storm.proofs.Benches.{none_held, some_is}
 use Rattle.dedb_storm.proofs.fitting.fits_call.Goals as goal
 
 pub returns-in-Some : goal.returns-in-Some
-returns-in-Some c long =
-    subst (FitsCallOn c.args.def.now c.args.number c.args.work.now) (sym c.in-Repl.is) (λ place held.
-    let type = some_is c.in-Some.segment (type_of_path c.args.def.now c.args.number place.path) (c.in-Some.ensures c.args.def.now
+returns-in-Some c long work its =
+    subst (FitsCallOn c.args.def.now c.args.number work) (sym c.in-Repl.is) (λ place held.
+    let type = some_is c.in-Some.segment (type_of_path c.args.def.now c.args.number place.path) (sym c.in-Some.is ∙ its
     ∙ ap (λ (o : Option Place). option_map (λ p. type_of_path c.args.def.now c.args.number p.path) o) held) in
     ap (λ (t : ℕ). has_length c.args.def.now.segments t c.in-Repl.bytes) (sym type)
     ∙ sym (c.has_length-in-Some.ensures
@@ -20,7 +20,6 @@ returns-in-Some c long =
     ∙ long)
 
 pub returns-in-None : goal.returns-in-None
-returns-in-None c long =
-    subst (FitsCallOn c.args.def.now c.args.number c.args.work.now) (sym c.in-Repl.is) (λ place held.
-    absurd (none_held (λ (p : Place). type_of_path c.args.def.now c.args.number p.path) _ place (c.in-None.ensures c.args.def.now)
-    held))
+returns-in-None c long work its =
+    subst (FitsCallOn c.args.def.now c.args.number work) (sym c.in-Repl.is) (λ place held.
+    absurd (none_held (λ (p : Place). type_of_path c.args.def.now c.args.number p.path) _ place (sym c.in-None.is ∙ its) held))

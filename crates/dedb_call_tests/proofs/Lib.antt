@@ -1,3 +1,0 @@
-pub mod Banks
-pub mod Benches
-pub mod Endings

@@ -1,5 +1,0 @@
-use Rattle.past_calls.specs.Progress.{IsWorkOf}
-use Rattle.dedb_call_tests.proofs.alone.ask.Given as goal
-
-abbrev pub invariant-loop : goal.invariant-loop
-invariant-loop g l = IsWorkOf l.defs l.work

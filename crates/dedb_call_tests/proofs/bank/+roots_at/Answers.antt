@@ -1,5 +1,0 @@
-use Rattle.dedb_call_tests.proofs.Banks.{kept_behind}
-use Rattle.dedb_call_tests.proofs.bank.+roots_at.Goals as goal
-
-pub returns-else-last-eq0 : goal.returns-else-last-eq0
-returns-else-last-eq0 t c dedbs all = c.roots_at.ensures dedbs (kept_behind dedbs _ c.args.kept.now all)

@@ -1,5 +1,0 @@
-use Rattle.dedb_call_tests.specs.Bench.{IsUnderWay}
-use Rattle.dedb_call_tests.proofs.bench.ask.Given as goal
-
-abbrev pub invariant-loop : goal.invariant-loop
-invariant-loop g l = IsUnderWay l.defs.dedbs l.work l.locks

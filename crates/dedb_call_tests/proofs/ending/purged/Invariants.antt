@@ -1,8 +1,0 @@
-use Rattle.dedb_call_tests.specs.Bank.{AreRootsAt}
-use Rattle.dedb_call_tests.proofs.ending.purged.Given as goal
-
-abbrev pub invariant-loop : goal.invariant-loop
-invariant-loop l = AreRootsAt l.defs.dedbs l.anchor l.roots
-
-abbrev pub invariant-loop-at : goal.invariant-loop-at
-invariant-loop-at l = AreRootsAt l.defs.dedbs l.anchor l.roots

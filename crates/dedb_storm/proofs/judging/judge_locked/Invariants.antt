@@ -1,0 +1,5 @@
+use Rattle.dedb_storm.specs.Bench.{IsUnderWay}
+use Rattle.dedb_storm.proofs.judging.judge_locked.Given as goal
+
+abbrev pub invariant-loop-text : goal.invariant-loop-text
+invariant-loop-text g l = IsUnderWay l.defs.dedbs l.work l.locks
