@@ -5,7 +5,7 @@ use crate::name::Name;
 use fp_lists::{Bytes, List};
 
 /// A message of one segment.
-#[derive(Clone, Debug, PartialEq, Eq, Drop)]
+#[derive(Debug, PartialEq, Eq, Drop)]
 pub struct Message {
     /// The terminal that waits for the reply.
     pub lterm: Name,
@@ -31,7 +31,7 @@ pub enum Get {
 }
 
 /// A segment search argument: a type, and a key where it is qualified.
-#[derive(Clone, Debug, PartialEq, Eq, Drop)]
+#[derive(Debug, PartialEq, Eq, Drop)]
 pub struct Ssa {
     /// The number of the segment type in its database; 0 in a main storage database.
     pub segment: u8,
@@ -39,7 +39,7 @@ pub struct Ssa {
 }
 
 /// A call to a database. A database number counts the main storage databases first.
-#[derive(Clone, Debug, PartialEq, Eq, Drop)]
+#[derive(Debug, PartialEq, Eq, Drop)]
 pub enum Call {
     /// GU, GN, GNP, and with `hold` GHU, GHN, GHNP.
     Get {
@@ -72,7 +72,7 @@ pub enum Call {
 }
 
 /// What a call is answered. A part that the call doesn't fill is 0 or empty.
-#[derive(Clone, Debug, PartialEq, Eq, Drop)]
+#[derive(Debug, PartialEq, Eq, Drop)]
 pub struct Answer {
     /// Two letters; two blanks where all is well.
     pub status: [u8; 2],
@@ -85,7 +85,7 @@ pub struct Answer {
 }
 
 /// What a lock stands for.
-#[derive(Clone, Debug, PartialEq, Eq, Drop)]
+#[derive(Debug, PartialEq, Eq, Drop)]
 pub enum Resource {
     /// A key of a main storage database.
     Segment { msdb: u8, key: Bytes },
@@ -119,7 +119,7 @@ pub struct AnchorChange {
 }
 
 /// A sequential dependent that waits for the commit step to get its serial.
-#[derive(Clone, Debug, PartialEq, Eq, Drop)]
+#[derive(Debug, PartialEq, Eq, Drop)]
 pub struct SeqInsert {
     pub dedb: u8,
     pub anchor: u32,

@@ -49,7 +49,7 @@ pub struct Dedb {
 }
 
 /// The state of a main storage database.
-#[derive(Clone, Debug, PartialEq, Eq, Drop)]
+#[derive(Debug, PartialEq, Eq, Drop)]
 pub struct Msdb {
     /// Keys ascending.
     pub segments: List<Bytes>,

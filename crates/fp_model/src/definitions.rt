@@ -42,7 +42,7 @@ pub struct FieldDef {
 }
 
 /// A main storage database: root segments of one fixed length, each with a unique key, the first field.
-#[derive(Clone, Debug, PartialEq, Eq, Drop)]
+#[derive(Debug, PartialEq, Eq, Drop)]
 pub struct MsdbDef {
     pub name: Name,
     /// Whether any transaction may insert and delete segments (this project's profile).
@@ -68,7 +68,7 @@ pub struct SegDef {
 }
 
 /// An area: one data set of a data entry database.
-#[derive(Clone, Debug, PartialEq, Eq, Drop)]
+#[derive(Debug, PartialEq, Eq, Drop)]
 pub struct AreaDef {
     pub name: Name,
     /// Units of work.
@@ -84,7 +84,7 @@ pub struct AreaDef {
 }
 
 /// A data entry database, cut into areas.
-#[derive(Clone, Debug, PartialEq, Eq, Drop)]
+#[derive(Debug, PartialEq, Eq, Drop)]
 pub struct DedbDef {
     pub name: Name,
     /// The exit that gives a root key its anchor.

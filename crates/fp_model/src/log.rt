@@ -27,7 +27,7 @@ pub enum Item {
 }
 
 /// How a transaction ended.
-#[derive(Clone, Debug, PartialEq, Eq, Drop)]
+#[derive(Debug, PartialEq, Eq, Drop)]
 pub enum Outcome {
     /// Committed.
     Done,
@@ -69,7 +69,7 @@ pub enum Outcome {
 }
 
 /// An entry of the log.
-#[derive(Clone, Debug, PartialEq, Eq, Drop)]
+#[derive(Debug, PartialEq, Eq, Drop)]
 pub struct Entry {
     /// How many entries stood as the transaction's last try began; its own place where no region makes it.
     pub from: u64,
