@@ -26,7 +26,7 @@ use fp_model::{Bytes, List, SegDef};
 use std::alloc::{AllocError, Global};
 
 /// The pointer to the first child of a direct child type.
-#[derive(Clone, Copy, Debug)]
+#[derive(Clone, Copy)]
 pub struct First {
     /// The number of the child type.
     pub segment: u8,
@@ -34,7 +34,7 @@ pub struct First {
 }
 
 /// What an element says.
-#[derive(Debug, Drop)]
+#[derive(Drop)]
 pub struct Said {
     /// The next twin.
     pub next: Pointer,

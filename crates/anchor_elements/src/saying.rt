@@ -19,7 +19,7 @@ use ci_space::{Interval, Intervals};
 use fp_model::{List, SegDef};
 
 /// What an element is to say.
-#[derive(Clone, Copy, Debug)]
+#[derive(Clone, Copy)]
 pub struct Saying<'a> {
     /// The next twin.
     pub next: Pointer,

@@ -1,7 +1,7 @@
 //! Which intervals of a data set an area has.
 
 /// The intervals of an area: the first `count` of a data set, of `size` bytes each.
-#[derive(Clone, Copy, Debug)]
+#[derive(Clone, Copy)]
 pub struct Extent {
     /// The number of its data set.
     pub set: u16,

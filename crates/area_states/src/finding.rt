@@ -18,7 +18,7 @@ use root_anchor::{AnchorFault, load};
 use std::alloc::Global;
 
 /// The root of a key among those of an anchor.
-#[derive(Clone, Copy, Debug)]
+#[derive(Clone, Copy)]
 pub struct Found {
     /// Its number, None where there is none.
     pub number: Option<usize>,

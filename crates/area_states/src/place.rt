@@ -4,7 +4,7 @@ use ci_space::Shape;
 use fp_model::{List, SegDef};
 
 /// An area of the installation. Its data set is its number among all areas, behind the log and the checkpoints.
-#[derive(Debug, Drop)]
+#[derive(Drop)]
 pub struct Place {
     /// Its database.
     pub dedb: u8,

@@ -37,7 +37,7 @@ pub(crate) enum Step {
 }
 
 /// What comes of staging.
-#[derive(Clone, Copy, PartialEq)]
+#[derive(Clone, Copy, PartialEq, Eq)]
 pub(crate) enum Came {
     /// Items, whatever they are.
     Some,
@@ -48,14 +48,14 @@ pub(crate) enum Came {
 }
 
 /// An item: its data set and interval, and of a range its place and bytes.
-#[derive(Clone, Copy, PartialEq)]
+#[derive(Clone, Copy, PartialEq, Eq)]
 pub(crate) enum Named {
     Image(u16, u64),
     Range(u16, u64, u16, &'static [u8]),
 }
 
 /// How a step ended.
-#[derive(Clone, Copy, PartialEq)]
+#[derive(Clone, Copy)]
 pub(crate) enum Ended {
     /// As wanted.
     Well,

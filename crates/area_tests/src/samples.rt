@@ -66,7 +66,7 @@ pub fn shape(uows: u32) -> Shape
 }
 
 /// A root, its newest serial (0 for none), and what the one segment below it says.
-#[derive(Clone, Copy, PartialEq)]
+#[derive(Clone, Copy)]
 pub struct Customer {
     pub number: u8,
     pub name: u8,

@@ -36,7 +36,7 @@ use std::alloc::{AllocError, Global};
 use std::marker::Model;
 
 // A terminal, its last number, and the line that answered it.
-#[derive(Debug, Drop)]
+#[derive(Drop)]
 struct Kept {
     lterm: Name,
     number: u64,
@@ -51,7 +51,7 @@ enum Place {
 }
 
 /// A number and a reply line for each terminal that has used one, ascending by name.
-#[derive(Debug, Drop)]
+#[derive(Drop)]
 pub struct Lasts {
     terminals: Vec<Box<Kept>>,
     // For terminals that are new.

@@ -11,7 +11,7 @@ use std::collections::{BTreeSet, VecDeque};
 use std::marker::Model;
 
 /// What became of a message that was offered.
-#[derive(Debug, PartialEq, Eq, Drop)]
+#[derive(PartialEq, Eq, Drop)]
 pub enum Offer {
     /// It is the last of this group's queue.
     Queued(u8),

@@ -3,7 +3,7 @@ use balancing::Lasts;
 use fp_model::{List, Msdb};
 
 /// Where a checkpoint stands.
-#[derive(Clone, Copy, Debug, PartialEq, Eq)]
+#[derive(Clone, Copy)]
 pub struct Place {
     /// Its number, which rises by 1 from one checkpoint to the next.
     pub number: u64,
@@ -14,7 +14,7 @@ pub struct Place {
 }
 
 /// A checkpoint that was read.
-#[derive(Debug, Drop)]
+#[derive(Drop)]
 pub struct Loaded {
     pub number: u64,
     /// The place of a gate in the log.

@@ -33,7 +33,7 @@ use log_format::{ReadError, long_of, put_u16, put_u64, u64_of};
 use std::alloc::{AllocError, Global};
 
 // A terminal that was read.
-#[derive(Debug, Drop)]
+#[derive(Drop)]
 pub(crate) struct Terminal {
     pub(crate) lterm: Name,
     pub(crate) number: u64,

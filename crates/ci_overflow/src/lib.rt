@@ -29,7 +29,7 @@ pub use room::{find_room, find_room_seen};
 pub use seen::SeenLinks;
 
 /// Why a call on an area's elements gives none. The object that holds the area is then thrown away.
-#[derive(Clone, Copy, Debug, PartialEq, Eq)]
+#[derive(Clone, Copy, PartialEq, Eq)]
 pub enum SpaceFault {
     /// This interval is at fault (`IsAtFault`): its bytes are no interval, or not of the kind of its
     /// place; a link in it leads to no interval of the link's list, or on and on back to it; it is

@@ -6,7 +6,7 @@ ghost use Rattle.ci_pool.specs.declared.fault.PoolFault.TheVariants as fault;
 use std::alloc::AllocError;
 
 /// Why the pool gives no bytes.
-#[derive(Clone, Copy, Debug, PartialEq, Eq)]
+#[derive(Clone, Copy, PartialEq, Eq)]
 pub enum PoolFault {
     /// The site failed. Its count of faults rose.
     Failed,

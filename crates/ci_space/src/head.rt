@@ -27,7 +27,7 @@ pub const SEQUENTIAL: u8 = 4;
 pub const INDEPENDENT: u8 = 5;
 
 /// What the first 32 bytes of an interval say.
-#[derive(Clone, Copy, Debug, PartialEq, Eq)]
+#[derive(Clone, Copy, PartialEq, Eq)]
 pub struct Head {
     /// 1 control, 2 base, 3 dependent overflow, 4 sequential, 5 independent overflow.
     pub kind: u8,

@@ -21,7 +21,7 @@ use std::alloc::Global;
 use std::marker::Model;
 
 /// An interval. Contracts see it as the list of its bytes.
-#[derive(Debug, Drop)]
+#[derive(Drop)]
 pub struct Interval {
     bytes: Vec<u8>,
 }

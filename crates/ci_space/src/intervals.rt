@@ -7,7 +7,7 @@ ghost use Rattle.ci_space.specs.Calls.{Rose, GoesOn, HaveSize};
 use crate::{Interval, Memory};
 
 /// Why a call on an area's intervals gives none.
-#[derive(Clone, Copy, Debug, PartialEq, Eq)]
+#[derive(Clone, Copy)]
 pub enum GetFault {
     /// What holds the intervals failed. Its count of faults rose.
     Failed,
@@ -22,7 +22,7 @@ pub enum GetFault {
 /// Where an area's parts stand: interval 0 is control, then come the units of work, each with its
 /// base intervals and its dependent overflow intervals, then the sequential intervals, then the
 /// independent overflow intervals, whose number grows. This order is the project's profile.
-#[derive(Clone, Copy, Debug, PartialEq, Eq)]
+#[derive(Clone, Copy)]
 pub struct Shape {
     /// The bytes of an interval: 512, 1,024, 2,048 or 4,096.
     pub ci: u16,

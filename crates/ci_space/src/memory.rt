@@ -9,7 +9,7 @@ use crate::{GetFault, Interval, Intervals, Memory};
 use std::alloc::{AllocError, Global};
 
 /// The intervals of an area in memory. It tells them.
-#[derive(Debug, Drop)]
+#[derive(Drop)]
 pub struct MemoryIntervals {
     alloc: Global,
     intervals: Vec<Interval>,

@@ -6,7 +6,7 @@ use fp_core::Stop;
 use std::alloc::{AllocError, AllocFailed};
 
 /// Why a run isn't one that a test can judge.
-#[derive(Debug, PartialEq, Eq, Drop)]
+#[derive(Debug, Drop)]
 pub enum Fault {
     /// Definitions, scripts or schedule of the test aren't read.
     NotRead,

@@ -29,7 +29,7 @@ use std::alloc::{AllocError, Global};
 use txn_lang::Scripts;
 
 /// What is found of a run.
-#[derive(Debug, Drop)]
+#[derive(Drop)]
 pub struct Found {
     /// What each event of the schedule did.
     pub dids: Vec<Did>,
@@ -133,7 +133,7 @@ pub fn step(
 }
 
 /// What the events of a schedule did.
-#[derive(Debug, Drop)]
+#[derive(Drop)]
 pub struct Story {
     pub dids: Vec<Did>,
     pub quiet: usize,

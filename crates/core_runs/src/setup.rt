@@ -15,7 +15,7 @@ use std::alloc::{AllocError, Global};
 use txn_lang::{Scripts, definitions_have_byte_numbers, parse, what_was_read_fits};
 
 /// What a run is given.
-#[derive(Clone, Copy, Debug)]
+#[derive(Clone, Copy)]
 pub struct Task<'a> {
     /// Definitions of main storage databases alone.
     pub definitions: &'a [u8],

@@ -13,7 +13,7 @@ use fp_exits::Exits;
 use std::alloc::{AllocError, Global};
 
 /// Texts of databases and scripts, by what stands in the heads of their blocks.
-#[derive(Debug, Drop)]
+#[derive(Drop)]
 pub(crate) struct Texts<'a> {
     known: Vec<(&'a str, &'a str)>,
 }
@@ -42,7 +42,7 @@ impl<'a> Texts<'a> {
 }
 
 /// A run, and what is wanted of it. No text has the newline of its last line.
-#[derive(Debug, Drop)]
+#[derive(Drop)]
 pub(crate) struct Case<'a> {
     definitions: String,
     scripts: String,

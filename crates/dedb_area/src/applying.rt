@@ -17,7 +17,7 @@ use fp_model::{Item, List};
 use std::alloc::{AllocError, Global};
 
 /// Why items can't be applied.
-#[derive(Clone, Copy, Debug, PartialEq, Eq)]
+#[derive(Clone, Copy)]
 pub enum ApplyFault {
     /// A range names this interval, and no image of it was applied before; or it passes the interval's end.
     NoImage { set: u16, ci: u64 },

@@ -12,7 +12,7 @@ use fp_model::{AnchorChange, List, Root, SegDef};
 use std::alloc::{AllocError, Global};
 
 /// An anchor that a transaction holds.
-#[derive(Debug, Drop)]
+#[derive(Drop)]
 pub(crate) struct HeldAnchor {
     pub(crate) dedb: u8,
     pub(crate) anchor: u32,

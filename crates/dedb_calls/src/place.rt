@@ -11,7 +11,7 @@ use std::alloc::AllocError;
 use std::marker::Model;
 
 /// A place in a data entry database: an anchor, and the path to a segment there.
-#[derive(Debug, Drop)]
+#[derive(Drop)]
 pub(crate) struct Place {
     pub(crate) anchor: u32,
     pub(crate) path: Path,
@@ -53,7 +53,7 @@ impl Place {
 
 /// Of one database: the place found or inserted last, the parent for gets below it, and whether the last call to the
 /// database was a hold get that found.
-#[derive(Debug, Drop)]
+#[derive(Drop)]
 pub(crate) struct Position {
     pub(crate) place: Option<Place>,
     pub(crate) parent: Option<Place>,

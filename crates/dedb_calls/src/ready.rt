@@ -6,7 +6,7 @@ use fp_model::{Answer, Bytes, Mode};
 use std::alloc::Global;
 
 /// What a call to a data entry database comes to.
-#[derive(Debug, Drop)]
+#[derive(Drop)]
 pub enum DedbReady {
     /// It is answered.
     Answer(Answer),

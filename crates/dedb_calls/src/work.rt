@@ -27,7 +27,7 @@ use std::marker::Model;
 
 /// What one transaction keeps of data entry databases until it commits: its positions, the anchors that it holds with
 /// their roots as it sees them, and its sequential inserts. How it holds them is asked elsewhere (`AnchorLocks`).
-#[derive(Debug, Drop)]
+#[derive(Drop)]
 pub struct DedbWork {
     pub(crate) positions: Vec<Position>,
     /// In order of database and anchor.

@@ -31,7 +31,7 @@ use std::alloc::{AllocError, Global};
 use std::cell::Cell;
 
 /// How the lines of a file are asked.
-#[derive(Clone, Copy, Debug)]
+#[derive(Clone, Copy)]
 pub(crate) enum Way {
     /// By one region, which gains each lock.
     Locked,
@@ -42,7 +42,7 @@ pub(crate) enum Way {
 }
 
 /// A file, with its definitions, and how its lines are asked.
-#[derive(Clone, Copy, Debug)]
+#[derive(Clone, Copy)]
 pub(crate) struct Asked<'a> {
     /// What it is called in the verdict.
     pub(crate) name: &'static str,

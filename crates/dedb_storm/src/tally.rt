@@ -7,7 +7,7 @@ use std::alloc::{AllocError, Global};
 const MOST_TOLD: u64 = 10;
 
 /// The lines of one file, judged in one way.
-#[derive(Debug, Drop)]
+#[derive(Drop)]
 pub(crate) struct Tally {
     // What is judged: the file, and by which calls.
     name: &'static str,
@@ -21,7 +21,7 @@ pub(crate) struct Tally {
 }
 
 /// What a line of a file says.
-#[derive(Clone, Copy, Debug)]
+#[derive(Clone, Copy)]
 pub(crate) enum Line<'a> {
     /// A scenario begins.
     Begin,

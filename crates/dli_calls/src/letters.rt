@@ -9,7 +9,7 @@ use fp_model::{Bytes, MsdbDef};
 use std::alloc::{AllocError, Global};
 
 // A letter for each field search argument, and whether all are blank.
-#[derive(Debug, Drop)]
+#[derive(Drop)]
 pub(crate) struct Letters {
     pub(crate) good: bool,
     pub(crate) letters: Bytes,

@@ -7,7 +7,7 @@ use fp_model::{Answer, Bytes, Deferred};
 use std::alloc::Global;
 
 // What becomes of the transaction. But for a hold get that found, it holds no segment of the database afterwards.
-#[derive(Debug, Drop)]
+#[derive(Drop)]
 pub(crate) enum Change {
     Nothing,
     // The position is at the segment of this key.
@@ -15,7 +15,7 @@ pub(crate) enum Change {
     Queued(Deferred),
 }
 
-#[derive(Debug, Drop)]
+#[derive(Drop)]
 pub(crate) struct Reply {
     pub(crate) answer: Answer,
     pub(crate) change: Change,

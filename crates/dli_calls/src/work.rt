@@ -28,7 +28,7 @@ use std::marker::Model;
 
 // Of one main storage database: the key of the segment found last, and whether the last call to the database was a
 // hold get that found it.
-#[derive(Debug, Drop)]
+#[derive(Drop)]
 pub(crate) struct Position {
     key: Option<Bytes>,
     held: bool,
@@ -78,7 +78,7 @@ fn drop_last<T: Drop>(list: &mut List<T>)
 
 /// What one transaction keeps to itself until it commits: its positions, its deferred calls, the anchors that it holds
 /// with their roots as it sees them, its sequential inserts, and its notes. Its region's locks stand elsewhere.
-#[derive(Debug, Drop)]
+#[derive(Drop)]
 pub struct Work {
     positions: Vec<Position>,
     // Those whose segments the queue inserts or deletes.
@@ -89,7 +89,7 @@ pub struct Work {
 }
 
 /// What a transaction hands to its commit.
-#[derive(Debug, Drop)]
+#[derive(Drop)]
 pub struct Parts {
     /// The deferred calls, in call order.
     pub deferred: List<Deferred>,

@@ -3,7 +3,7 @@
 use fp_model::{Bytes, List};
 
 /// A step of a path: to a root, to a child of the segment above, or to a sequential dependent of a root.
-#[derive(Clone, Debug, PartialEq, Eq, Drop)]
+#[derive(Clone, PartialEq, Eq, Drop)]
 pub struct Step {
     /// The number of the segment type in its database.
     pub segment: u8,
@@ -14,7 +14,7 @@ pub struct Step {
 }
 
 /// The steps to a segment, from its root down.
-#[derive(Clone, Debug, PartialEq, Eq, Drop)]
+#[derive(Clone, PartialEq, Eq, Drop)]
 pub struct Path {
     pub steps: List<Step>,
 }

@@ -8,7 +8,7 @@ use fp_model::{Bytes, Name};
 use std::alloc::{AllocError, Global};
 
 /// A field search argument: one test or change of a field.
-#[derive(Debug, PartialEq, Eq, Drop)]
+#[derive(Drop)]
 pub struct Fsa {
     pub field: Name,
     /// The letter that it was answered; a blank where it is good.
@@ -20,7 +20,7 @@ pub struct Fsa {
 }
 
 /// A field search argument whose operand is lent: as it stands in the bytes of a list, or is to be written there.
-#[derive(Clone, Copy, Debug)]
+#[derive(Clone, Copy)]
 pub struct LentFsa<'a> {
     pub field: Name,
     pub status: u8,
@@ -58,7 +58,7 @@ impl LentFsa<'_> {
 }
 
 /// Why bytes aren't read as a list of field search arguments.
-#[derive(Clone, Copy, Debug, PartialEq, Eq)]
+#[derive(Clone, Copy)]
 pub enum FsaFault {
     /// The place of the argument that the bytes end in, counted from 0.
     Short(u32),
@@ -78,7 +78,7 @@ impl From<AllocError> for FsaFault {
 }
 
 /// Why a list of arguments isn't settled.
-#[derive(Debug, PartialEq, Eq, Drop)]
+#[derive(Drop)]
 pub enum SettleFault {
     /// The place of the first bad argument, counted from 0, and the bytes of its field as it met them: none where there
     /// is no such field.

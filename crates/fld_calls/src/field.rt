@@ -14,7 +14,7 @@ use fp_model::{FieldDef, FieldKind};
 use packed_dec::{read_number, write_number};
 
 /// Why an argument isn't good. Of several reasons it is the first, in the order of the letters.
-#[derive(Clone, Copy, Debug, PartialEq, Eq)]
+#[derive(Clone, Copy)]
 pub(crate) enum Refusal {
     /// A: no such operation, or none on characters.
     Operation,

@@ -6,7 +6,7 @@ ghost use Rattle.fld_calls.specs.Operations.{byte_of, sum_byte, verify_byte};
 use std::cmp::Ordering;
 
 /// What an argument asks of a field.
-#[derive(Clone, Copy, Debug, PartialEq, Eq)]
+#[derive(Clone, Copy)]
 pub(crate) enum Operation {
     Verify(Verify),
     Sum(Sum),
@@ -15,7 +15,7 @@ pub(crate) enum Operation {
 }
 
 /// A comparison of the field, on its left, with the operand, on its right.
-#[derive(Clone, Copy, Debug, PartialEq, Eq)]
+#[derive(Clone, Copy)]
 pub(crate) enum Verify {
     Equal,
     Greater,
@@ -26,7 +26,7 @@ pub(crate) enum Verify {
 }
 
 /// A sum of the field and the operand.
-#[derive(Clone, Copy, Debug, PartialEq, Eq)]
+#[derive(Clone, Copy)]
 pub(crate) enum Sum {
     Add,
     Subtract,

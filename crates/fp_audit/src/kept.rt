@@ -3,7 +3,7 @@
 use fp_model::Bytes;
 
 /// The last number of a terminal, and the reply line that it got, without its newline.
-#[derive(Debug, Drop)]
+#[derive(Drop)]
 pub(crate) struct Kept {
     pub(crate) number: u64,
     pub(crate) line: Bytes,

@@ -1,7 +1,7 @@
 //! What an auditor has found so far.
 
 /// What an auditor has found of the entries so far.
-#[derive(Clone, Copy, Debug)]
+#[derive(Clone, Copy)]
 pub(crate) enum Verdict {
     /// All are legal.
     Legal,

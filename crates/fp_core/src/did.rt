@@ -1,7 +1,7 @@
 //! What a step did.
 
 /// What a step did. Each comes exactly in its case of the table of turns.
-#[derive(Clone, Copy, Debug, PartialEq, Eq)]
+#[derive(Clone, Copy, PartialEq, Eq)]
 pub enum Did {
     /// There was nothing to do.
     Nothing,

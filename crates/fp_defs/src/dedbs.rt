@@ -20,7 +20,7 @@ use std::alloc::Global;
 use toml::Table;
 
 /// A database's own keys but its segments and areas.
-#[derive(Clone, Copy, Debug)]
+#[derive(Clone, Copy)]
 struct Head {
     name: Name,
     randomizer: Kind,

@@ -20,7 +20,7 @@ use std::alloc::{AllocError, Global};
 use toml::{Table, Value};
 
 /// A field as the file writes it: its place follows from those before it.
-#[derive(Clone, Copy, Debug, PartialEq, Eq)]
+#[derive(Clone, Copy)]
 pub struct Triple {
     pub name: Name,
     pub kind: FieldKind,
@@ -29,7 +29,7 @@ pub struct Triple {
 }
 
 /// The fields of a segment and its length.
-#[derive(Debug, Drop)]
+#[derive(Drop)]
 pub struct Layout {
     pub fields: List<FieldDef>,
     /// In bytes: up to 64 fields of 1,024.

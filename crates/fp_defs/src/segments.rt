@@ -25,7 +25,7 @@ use toml::{Table, Value};
 const NO_LIMIT: u32 = 65_536;
 
 /// A segment type as its table says it.
-#[derive(Debug, Drop)]
+#[derive(Drop)]
 pub(crate) struct Draft {
     name: Name,
     parent: Option<usize>,

@@ -8,7 +8,7 @@ use std::alloc::{AllocError, Global};
 use std::io;
 
 /// A call of the system.
-#[derive(Clone, Copy, Debug, PartialEq, Eq)]
+#[derive(Clone, Copy)]
 pub enum Call {
     Lock,
     Open,
@@ -21,7 +21,7 @@ pub enum Call {
 }
 
 /// What a call was made on.
-#[derive(Clone, Copy, Debug, PartialEq, Eq)]
+#[derive(Clone, Copy)]
 pub enum Place {
     Folder,
     DataSet(u16),
@@ -30,7 +30,7 @@ pub enum Place {
 }
 
 /// A call that failed.
-#[derive(Clone, Copy, Debug)]
+#[derive(Clone, Copy)]
 pub struct Cause {
     pub place: Place,
     pub call: Call,

@@ -12,7 +12,7 @@ use std::{fs, io};
 const OWNERS_ALONE: u32 = 0o600;
 
 /// What a program does with the data sets of a folder.
-#[derive(Clone, Copy, Debug, PartialEq, Eq)]
+#[derive(Clone, Copy)]
 pub enum Access {
     /// It reads and writes them, and no other program may use them meanwhile.
     Change,

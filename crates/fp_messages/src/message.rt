@@ -11,7 +11,7 @@ use fp_model::{Bytes, Message, Name};
 use std::alloc::{AllocError, Global};
 
 /// Why a line isn't read as a message. Of several reasons it is the first, in this order.
-#[derive(Clone, Copy, Debug, PartialEq, Eq)]
+#[derive(Clone, Copy, Debug)]
 pub enum MessageFault {
     /// The first word is no name.
     NoTerminal,

@@ -5,7 +5,7 @@ use crate::name::Name;
 use fp_lists::{Bytes, List};
 
 /// A message of one segment.
-#[derive(Debug, PartialEq, Eq, Drop)]
+#[derive(PartialEq, Eq, Drop)]
 pub struct Message {
     /// The terminal that waits for the reply.
     pub lterm: Name,
@@ -20,7 +20,7 @@ pub struct Message {
 }
 
 /// Which segment a get looks for.
-#[derive(Clone, Copy, Debug, PartialEq, Eq)]
+#[derive(Clone, Copy, PartialEq, Eq)]
 pub enum Get {
     /// GU, and GHU with a hold: the first that is admitted.
     Unique,
@@ -31,7 +31,7 @@ pub enum Get {
 }
 
 /// A segment search argument: a type, and a key where it is qualified.
-#[derive(Debug, PartialEq, Eq, Drop)]
+#[derive(Drop)]
 pub struct Ssa {
     /// The number of the segment type in its database; 0 in a main storage database.
     pub segment: u8,
@@ -39,7 +39,7 @@ pub struct Ssa {
 }
 
 /// A call to a database. A database number counts the main storage databases first.
-#[derive(Debug, PartialEq, Eq, Drop)]
+#[derive(Drop)]
 pub enum Call {
     /// GU, GN, GNP, and with `hold` GHU, GHN, GHNP.
     Get {
@@ -72,7 +72,7 @@ pub enum Call {
 }
 
 /// What a call is answered. A part that the call doesn't fill is 0 or empty.
-#[derive(Debug, PartialEq, Eq, Drop)]
+#[derive(Drop)]
 pub struct Answer {
     /// Two letters; two blanks where all is well.
     pub status: [u8; 2],
@@ -85,7 +85,7 @@ pub struct Answer {
 }
 
 /// What a lock stands for.
-#[derive(Debug, PartialEq, Eq, Drop)]
+#[derive(Drop)]
 pub enum Resource {
     /// A key of a main storage database.
     Segment { msdb: u8, key: Bytes },
@@ -94,14 +94,14 @@ pub enum Resource {
 }
 
 /// How a lock is held.
-#[derive(Clone, Copy, Debug, PartialEq, Eq)]
+#[derive(Clone, Copy, PartialEq, Eq)]
 pub enum Mode {
     Share,
     Exclusive,
 }
 
 /// A change of a main storage database that waits for the sync point.
-#[derive(Clone, Debug, PartialEq, Eq, Drop)]
+#[derive(Clone, Drop)]
 pub enum Deferred {
     Fld { msdb: u8, key: Bytes, fsas: Bytes },
     Repl { msdb: u8, bytes: Bytes },
@@ -110,7 +110,7 @@ pub enum Deferred {
 }
 
 /// An anchor whose roots a transaction has changed.
-#[derive(Debug, PartialEq, Eq, Drop)]
+#[derive(Drop)]
 pub struct AnchorChange {
     pub dedb: u8,
     pub anchor: u32,
@@ -119,7 +119,7 @@ pub struct AnchorChange {
 }
 
 /// A sequential dependent that waits for the commit step to get its serial.
-#[derive(Debug, PartialEq, Eq, Drop)]
+#[derive(Drop)]
 pub struct SeqInsert {
     pub dedb: u8,
     pub anchor: u32,

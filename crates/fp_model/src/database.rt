@@ -5,7 +5,7 @@ use fp_lists::{Bytes, List};
 use std::alloc::AllocError;
 
 /// A direct dependent with all below it.
-#[derive(Debug, PartialEq, Eq, Drop)]
+#[derive(PartialEq, Eq, Drop)]
 pub struct Node {
     pub bytes: Bytes,
     /// One list for each direct child type, in order of definition, keys ascending.
@@ -13,7 +13,7 @@ pub struct Node {
 }
 
 /// A sequential dependent.
-#[derive(Clone, Debug, PartialEq, Eq, Drop)]
+#[derive(Clone, PartialEq, Eq, Drop)]
 pub struct SeqItem {
     /// Its number in its area, in order of entry, from 1.
     pub serial: u64,
@@ -21,7 +21,7 @@ pub struct SeqItem {
 }
 
 /// A root segment with all below it.
-#[derive(Debug, PartialEq, Eq, Drop)]
+#[derive(PartialEq, Eq, Drop)]
 pub struct Root {
     pub bytes: Bytes,
     /// One list for each direct child type, in order of definition, keys ascending.
@@ -31,7 +31,7 @@ pub struct Root {
 }
 
 /// The ends of the sequential part of an area.
-#[derive(Clone, Copy, Debug, PartialEq, Eq)]
+#[derive(Clone, Copy, PartialEq, Eq)]
 pub struct AreaEnds {
     /// The least serial that may still be kept; `end` where none is.
     pub begin: u64,
@@ -40,7 +40,7 @@ pub struct AreaEnds {
 }
 
 /// The state of a data entry database.
-#[derive(Debug, PartialEq, Eq, Drop)]
+#[derive(Drop)]
 pub struct Dedb {
     /// The roots of each anchor, keys ascending, through the areas in order.
     pub anchors: List<List<Root>>,
@@ -49,14 +49,14 @@ pub struct Dedb {
 }
 
 /// The state of a main storage database.
-#[derive(Debug, PartialEq, Eq, Drop)]
+#[derive(Drop)]
 pub struct Msdb {
     /// Keys ascending.
     pub segments: List<Bytes>,
 }
 
 /// The state of all databases.
-#[derive(Debug, PartialEq, Eq, Drop)]
+#[derive(Drop)]
 pub struct Db {
     pub msdbs: List<Msdb>,
     pub dedbs: List<Dedb>,

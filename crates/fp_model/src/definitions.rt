@@ -16,7 +16,7 @@ pub enum Kind {
 }
 
 /// The kind of a field.
-#[derive(Clone, Copy, Debug, PartialEq, Eq)]
+#[derive(Clone, Copy)]
 pub enum FieldKind {
     /// Characters, padded with blanks. No number.
     C,
@@ -31,7 +31,7 @@ pub enum FieldKind {
 }
 
 /// A field of a segment.
-#[derive(Clone, Copy, Debug, PartialEq, Eq)]
+#[derive(Clone, Copy)]
 pub struct FieldDef {
     pub name: Name,
     pub kind: FieldKind,
@@ -42,7 +42,7 @@ pub struct FieldDef {
 }
 
 /// A main storage database: root segments of one fixed length, each with a unique key, the first field.
-#[derive(Debug, PartialEq, Eq, Drop)]
+#[derive(Drop)]
 pub struct MsdbDef {
     pub name: Name,
     /// Whether any transaction may insert and delete segments (this project's profile).
@@ -55,7 +55,7 @@ pub struct MsdbDef {
 }
 
 /// A segment type of a data entry database.
-#[derive(Clone, Debug, PartialEq, Eq, Drop)]
+#[derive(Clone, Drop)]
 pub struct SegDef {
     pub name: Name,
     /// The number of the parent type in the list of types; None at the root.
@@ -68,7 +68,7 @@ pub struct SegDef {
 }
 
 /// An area: one data set of a data entry database.
-#[derive(Debug, PartialEq, Eq, Drop)]
+#[derive(Drop)]
 pub struct AreaDef {
     pub name: Name,
     /// Units of work.
@@ -84,7 +84,7 @@ pub struct AreaDef {
 }
 
 /// A data entry database, cut into areas.
-#[derive(Debug, PartialEq, Eq, Drop)]
+#[derive(Drop)]
 pub struct DedbDef {
     pub name: Name,
     /// The exit that gives a root key its anchor.
@@ -97,7 +97,7 @@ pub struct DedbDef {
 }
 
 /// All definitions of an installation.
-#[derive(Debug, PartialEq, Eq, Drop)]
+#[derive(Drop)]
 pub struct Defs {
     /// The balancing group of each region, from 1.
     pub regions: List<u8>,

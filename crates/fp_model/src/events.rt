@@ -1,7 +1,7 @@
 //! What a schedule asks for.
 
 /// One turn of a schedule.
-#[derive(Clone, Copy, Debug, PartialEq, Eq)]
+#[derive(Clone, Copy, PartialEq, Eq)]
 pub enum Event {
     /// Takes in a message line.
     In,

@@ -3,7 +3,7 @@
 use fp_lists::{Bytes, List};
 
 /// A part of a database as it is after the entry.
-#[derive(Clone, Debug, PartialEq, Eq, Drop)]
+#[derive(Clone, PartialEq, Eq, Drop)]
 pub enum Item {
     /// A segment of a main storage database; no bytes: the key was deleted.
     Segment {
@@ -27,7 +27,7 @@ pub enum Item {
 }
 
 /// How a transaction ended.
-#[derive(Debug, PartialEq, Eq, Drop)]
+#[derive(PartialEq, Eq, Drop)]
 pub enum Outcome {
     /// Committed.
     Done,
@@ -69,7 +69,7 @@ pub enum Outcome {
 }
 
 /// An entry of the log.
-#[derive(Debug, PartialEq, Eq, Drop)]
+#[derive(PartialEq, Eq, Drop)]
 pub struct Entry {
     /// How many entries stood as the transaction's last try began; its own place where no region makes it.
     pub from: u64,

@@ -13,14 +13,14 @@ use fp_model::{Bytes, Entry, Name, Outcome};
 use std::alloc::{AllocError, Global};
 
 /// What entries leave of numbers: the format in which the next line is read, and the last number of each terminal.
-#[derive(Debug, Drop)]
+#[derive(Drop)]
 pub struct Numbers {
     pub format: u8,
     pub lasts: Lasts,
 }
 
 // The number that an entry used up: whose, and the reply line that goes with it.
-#[derive(Debug, Drop)]
+#[derive(Drop)]
 struct Used {
     lterm: Name,
     number: u64,

@@ -7,7 +7,7 @@ ghost use Rattle.std.specs.Prelude.{◌≡◌, ◌+◌, ◌-◌, ◌^◌, IfSome
 use crate::{Failed, Site};
 
 /// A kind of call on a data set.
-#[derive(Clone, Copy, Debug, PartialEq, Eq)]
+#[derive(Clone, Copy, PartialEq, Eq)]
 pub enum Kind {
     Size,
     Reach,
@@ -18,7 +18,7 @@ pub enum Kind {
 
 /// A site that fails at every call of one kind on one data set, or at one of them alone. Wrapped again, it fails at
 /// more.
-#[derive(Debug, Drop)]
+#[derive(Drop)]
 pub struct FailingSite<T: Site> {
     site: T,
     kind: Kind,

@@ -5,7 +5,7 @@ ghost use Rattle.fp_site.specs.Faults.{IsCounted, is_stopped, is_told};
 use std::alloc::{AllocError, Global};
 
 // Which calls are to fail, and how many did.
-#[derive(Debug, Drop)]
+#[derive(Drop)]
 pub struct Faults {
     // The numbers of calls that are to fail, counted from 0.
     failing: Vec<u64>,

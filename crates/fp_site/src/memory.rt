@@ -23,7 +23,7 @@ use fp_lists::{Bytes, List};
 use std::alloc::{AllocError, Global};
 
 /// A site in memory. It fails at the calls that it is told to fail and where it finds no memory, and nowhere else.
-#[derive(Debug, Drop)]
+#[derive(Drop)]
 pub struct MemorySite {
     alloc: Global,
     // The data sets as a read gives them.

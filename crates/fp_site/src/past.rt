@@ -8,7 +8,7 @@ use crate::snapshot::Snapshot;
 use std::alloc::{AllocError, Global};
 
 // What a site began with, and its calls since.
-#[derive(Debug, Drop)]
+#[derive(Drop)]
 pub struct Past {
     pub start: Snapshot,
     // The oldest first.

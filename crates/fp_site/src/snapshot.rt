@@ -5,7 +5,7 @@ use fp_lists::{Bytes, List};
 
 /// What a crash leaves of a site: the data sets in the order of their numbers, and the bytes sent by then. A data
 /// set past the end of the list has no bytes.
-#[derive(Debug, Drop)]
+#[derive(Drop)]
 pub struct Snapshot {
     pub images: List<Bytes>,
     pub sent: Bytes,

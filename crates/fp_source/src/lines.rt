@@ -14,7 +14,7 @@ use fp_lists::Bytes;
 use std::alloc::{AllocError, Global};
 
 /// Why a line isn't given, with its number from 1. A line that is both too long and one too many is one too many.
-#[derive(Clone, Copy, Debug, PartialEq, Eq)]
+#[derive(Clone, Copy)]
 pub enum LineFault {
     /// It has more than 2,100 bytes before its newline, a byte 13 there among them.
     TooLong(u64),

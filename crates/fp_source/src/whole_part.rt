@@ -7,7 +7,7 @@ use fp_lists::Bytes;
 use std::alloc::{AllocError, Global};
 
 /// Why a part isn't given as a whole.
-#[derive(Clone, Copy, Debug, PartialEq, Eq)]
+#[derive(Clone, Copy)]
 pub enum WholeFault {
     /// It has more bytes than the limit.
     TooLong,

@@ -41,7 +41,7 @@ const MOST_BYTES: u64 = 1_000_000;
 const MOST_SCHEDULE: u64 = 32_000_000;
 
 /// What definitions and scripts ask for.
-#[derive(Debug, Drop)]
+#[derive(Drop)]
 pub(crate) struct Setup {
     pub defs: Defs,
     pub scripts: Scripts,
@@ -50,7 +50,7 @@ pub(crate) struct Setup {
 }
 
 /// What a command is to do.
-#[derive(Debug, Drop)]
+#[derive(Drop)]
 pub(crate) struct Task {
     pub setup: Setup,
     /// The events of the schedule, in order; none where the command reads no schedule.

@@ -15,7 +15,7 @@ use std::alloc::{AllocError, Global};
 use txn_lang::ScriptFault;
 
 /// How the program ends.
-#[derive(Debug, PartialEq, Eq, Drop)]
+#[derive(PartialEq, Eq, Drop)]
 pub enum Status {
     /// All was done.
     Done,

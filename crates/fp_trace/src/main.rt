@@ -37,7 +37,7 @@ use table::table;
 use turns::turns_of;
 
 // What is to be printed.
-#[derive(Clone, Copy, Debug)]
+#[derive(Clone, Copy)]
 struct Wanted {
     table: bool,
     picture: bool,

@@ -31,7 +31,7 @@ const STYLE: &str =
     .g{fill:#f3ead8;stroke:#a98}</style>\n";
 
 // A lock that a region holds or waits for, from a turn on.
-#[derive(Clone, Copy, Debug)]
+#[derive(Clone, Copy)]
 struct Bar<'a> {
     lock: &'a str,
     from: u64,

@@ -28,7 +28,7 @@ const FORMAT: u8 = 2;
 const MOST_SCRIPTS: usize = 1_000_000;
 
 /// An event, and what it did.
-#[derive(Clone, Copy, Debug)]
+#[derive(Clone, Copy)]
 pub(crate) struct Step {
     pub event: Event,
     pub did: Did,
@@ -37,7 +37,7 @@ pub(crate) struct Step {
 }
 
 /// A group of the log.
-#[derive(Clone, Copy, Debug)]
+#[derive(Clone, Copy)]
 pub(crate) struct Placed {
     /// The place of its gate, and that of the gate behind it, in bytes.
     pub gate: u64,

@@ -14,7 +14,7 @@ use std::alloc::{AllocError, Global};
 use txn_lang::Scripts;
 
 /// Numbers of things that stand one behind the other, from the first to the last.
-#[derive(Clone, Copy, Debug)]
+#[derive(Clone, Copy)]
 pub(crate) struct Span {
     pub first: u64,
     pub last: u64,

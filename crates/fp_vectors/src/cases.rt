@@ -6,7 +6,7 @@
 //! Other lines of a file with a case a line say something to its reader, as do those before the first block.
 
 /// A case: what goes in, and what must come out.
-#[derive(Debug, Drop)]
+#[derive(Drop)]
 pub(crate) struct Case<'a> {
     /// What else goes in with the text of a block; nothing in a line.
     pub(crate) key: &'a str,
@@ -44,7 +44,7 @@ impl<'a> Case<'a> {
 }
 
 /// How many cases a file has, and how many differ.
-#[derive(Debug, Drop)]
+#[derive(Drop)]
 pub(crate) struct Counts {
     cases: u64,
     differ: u64,

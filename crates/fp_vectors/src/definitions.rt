@@ -19,7 +19,7 @@ use fp_model::{Bytes, Defs, Kind, Name};
 use std::alloc::{AllocError, Global};
 
 /// The exits that an installation has.
-#[derive(Clone, Copy, Debug, PartialEq, Eq)]
+#[derive(Clone, Copy)]
 pub(crate) struct Kinds {
     folding_router: bool,
     ranging_router: bool,

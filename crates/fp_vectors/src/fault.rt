@@ -4,7 +4,7 @@ use hex::FromHexError;
 use std::alloc::{AllocError, AllocFailed};
 
 /// Why a case isn't judged.
-#[derive(Clone, Copy, Debug, PartialEq, Eq)]
+#[derive(Clone, Copy)]
 pub(crate) enum CaseFault {
     /// Its text isn't of the form that its file has.
     Malformed,

@@ -19,7 +19,7 @@ use std::alloc::{AllocError, Global};
 use txn_lang::{ScriptFault, parse};
 
 /// Definitions with a name.
-#[derive(Debug, Drop)]
+#[derive(Drop)]
 pub(crate) struct Named {
     name: String,
     defs: Defs,

@@ -10,7 +10,7 @@ use crate::{
 use std::alloc::Global;
 
 /// A set of cases of one kind, which lies in a file.
-#[derive(Clone, Copy, Debug, PartialEq, Eq)]
+#[derive(Clone, Copy)]
 pub(crate) enum Set {
     /// Numbers in the fields of segments.
     Numbers,
@@ -72,7 +72,7 @@ impl Set {
 }
 
 /// Who judges the cases of a set, in their order.
-#[derive(Debug, Drop)]
+#[derive(Drop)]
 pub(crate) struct Judge {
     alloc: Global,
     set: Set,

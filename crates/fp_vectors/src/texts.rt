@@ -76,7 +76,7 @@ pub(crate) fn put_words(text: &mut Vec<u8>, words: &str) -> Result<(), AllocErro
 }
 
 // What stands last in the parts of bytes.
-#[derive(Clone, Copy, Debug, PartialEq, Eq)]
+#[derive(Clone, Copy)]
 enum Last {
     Nothing,
     Digits,

@@ -3,7 +3,7 @@ ghost use Rattle.generated_load.specs.Draws.{drawn, next};
 ghost use Rattle.std.specs.Prelude.{◌≡◌, ◌<◌, ◌^◌};
 
 /// The state behind the last draw. It is below 2^32.
-#[derive(Clone, Copy, Debug)]
+#[derive(Clone, Copy)]
 pub(crate) struct Draws {
     pub(crate) state: u32,
 }

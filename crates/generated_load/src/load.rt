@@ -25,7 +25,7 @@ const MESSAGES: u32 = 1_999;
 const TOKENS: u32 = 20_000;
 
 /// A schedule and messages that were drawn.
-#[derive(Debug, Drop)]
+#[derive(Drop)]
 pub struct Load {
     /// The schedule, a token on each line.
     pub schedule: Bytes,

@@ -179,9 +179,9 @@ fn after(status: Status, written: Result<(), Failed>) -> Status
     ensures others { status ≢ Status.Done → result ≡ status }
     ensures written { IsOk written → result ≡ status }
 {
-    match written {
-        Err(Failed) if status == Status::Done => Status::SiteFault,
-        _ => status,
+    match (status, written) {
+        (Status::Done, Err(Failed)) => Status::SiteFault,
+        (status, _) => status,
     }
 }
 

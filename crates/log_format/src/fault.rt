@@ -9,7 +9,7 @@ ghost use Rattle.std.specs.Prelude.{◌≡◌};
 use std::alloc::{AllocError, AllocFailed};
 
 /// Why a value could not be read off the front of bytes.
-#[derive(Clone, Copy, Debug, PartialEq, Eq)]
+#[derive(Clone, Copy, Debug)]
 pub enum ReadError {
     /// There was no memory for it.
     Memory,
@@ -34,7 +34,7 @@ impl<T: Drop> From<AllocFailed<T>> for ReadError {
 }
 
 /// Why bytes could not be read as entries.
-#[derive(Clone, Copy, Debug, PartialEq, Eq)]
+#[derive(Clone, Copy, Debug)]
 pub enum FormatFault {
     /// There was no memory for them.
     Memory,

@@ -19,7 +19,7 @@ pub enum LogFault {
 }
 
 /// Why entries could not be sealed.
-#[derive(Clone, Copy, Debug, PartialEq, Eq)]
+#[derive(Clone, Copy, PartialEq, Eq)]
 pub enum SealFault {
     /// The site failed. The log must be opened again.
     Failed,

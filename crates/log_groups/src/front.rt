@@ -7,7 +7,7 @@ use log_format::put_part;
 use std::alloc::{AllocError, Global};
 
 /// What a log was made for.
-#[derive(Debug, Drop)]
+#[derive(Drop)]
 pub struct Front {
     /// The format in which its lines are read at first, 1 or 2.
     pub format: u8,

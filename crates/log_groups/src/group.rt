@@ -38,7 +38,7 @@ use log_format::{FormatFault, entries, number_of};
 use std::alloc::Global;
 
 /// A group of the log.
-#[derive(Debug, Drop)]
+#[derive(Drop)]
 pub struct Group {
     pub entries: List<Entry>,
     /// The place of the gate behind it.

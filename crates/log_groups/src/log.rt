@@ -26,7 +26,7 @@ const LIMIT: u64 = 1 << 62;
 
 /// A log that is open. Contracts see the format of its front and of its site, how many entries are sealed, its closed
 /// gate, the entries that are not sealed, the oldest first, and its spare.
-#[derive(Debug, Drop)]
+#[derive(Drop)]
 pub struct Log {
     front_format: u8,
     format: u8,

@@ -27,7 +27,7 @@ use std::alloc::{AllocError, Global};
 use std::marker::Model;
 
 /// The data sets of checkpoints: which has the newest sure one, and what is under way in the other.
-#[derive(Debug, Drop)]
+#[derive(Drop)]
 pub struct Checkpoints {
     set: u16,
     number: u64,

@@ -12,7 +12,7 @@ use fp_site::{Failed, Site};
 use gated_write::{finish, open, put, shut};
 
 /// How far a checkpoint is.
-#[derive(Clone, Copy, Debug, PartialEq, Eq)]
+#[derive(Clone, Copy)]
 pub enum Stage {
     /// Nothing is written.
     Begun,
@@ -23,7 +23,7 @@ pub enum Stage {
 }
 
 /// A checkpoint that is under way.
-#[derive(Debug, Drop)]
+#[derive(Drop)]
 pub struct UnderWay {
     /// Its number.
     pub number: u64,

@@ -8,7 +8,7 @@ use std::alloc::{AllocError, Global};
 use std::cell::Cell;
 
 // A head, and how many keys have a lower one.
-#[derive(Clone, Copy, Debug)]
+#[derive(Clone, Copy)]
 struct Guess {
     head: u64,
     place: usize,
@@ -21,7 +21,7 @@ const FIRST: Guess = Guess { head: 0, place: 0 };
 const SPREAD: u64 = 0x9E37_79B9_7F4A_7C15;
 
 // The heads of the keys, in the order of the segments.
-#[derive(Debug, Drop)]
+#[derive(Drop)]
 pub(crate) struct Heads {
     heads: Vec<u64>,
     // By hash, the place that one of the heads had at first. There are twice as many as heads, or more.

@@ -13,7 +13,7 @@ use std::marker::Model;
 use std::mem::replace;
 
 // `order` has the number of each slot once: first those in use, in the order of their segments, then the free ones.
-#[derive(Debug, Drop)]
+#[derive(Drop)]
 pub(crate) struct Segments {
     slots: Vec<Bytes>,
     order: Vec<u32>,

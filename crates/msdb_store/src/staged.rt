@@ -45,7 +45,7 @@ impl VerifyFault {
 
 /// The segments that a settled queue names, as it leaves them: an item for each, ascending by database and key, and how
 /// many of them the databases lack.
-#[derive(Debug, Drop)]
+#[derive(Drop)]
 pub struct Staged {
     pub(crate) items: List<Item>,
     pub(crate) inserts: u32,

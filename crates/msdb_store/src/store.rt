@@ -22,7 +22,7 @@ use std::marker::Model;
 /// The segments of the main storage databases, by key. Contracts see the fields of each database's segments, the
 /// databases, and how many segments each of them takes without more memory. The database of number n is the one that
 /// the definitions have in place n, counted from 0.
-#[derive(Debug, Drop)]
+#[derive(Drop)]
 pub struct MsdbStore {
     pub(crate) tables: Vec<Table>,
 }

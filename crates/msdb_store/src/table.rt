@@ -12,7 +12,7 @@ use crate::segments::Segments;
 use fp_model::{Bytes, FieldDef, List, Msdb, MsdbDef, key_length};
 use std::alloc::{AllocError, Global};
 
-#[derive(Debug, Drop)]
+#[derive(Drop)]
 pub(crate) struct Table {
     pub(crate) fields: List<FieldDef>,
     pub(crate) segments: Segments,

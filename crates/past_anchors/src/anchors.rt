@@ -20,7 +20,7 @@ use std::alloc::{AllocError, Global};
 use std::marker::Model;
 
 /// The data entry databases at the present place, each with the roots of its anchors and the ends of its areas.
-#[derive(Debug, Drop)]
+#[derive(Drop)]
 pub struct Anchors {
     dedbs: List<Dedb>,
 }

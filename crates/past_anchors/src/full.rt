@@ -14,7 +14,7 @@ use crate::start::first_ends;
 use fp_model::{AreaDef, AreaEnds, Dedb, DedbDef, SeqInsert};
 
 /// An area that has no room for the sequential inserts of a transaction.
-#[derive(Debug, PartialEq, Eq, Drop)]
+#[derive(PartialEq, Eq, Drop)]
 pub struct Full {
     /// The area's data set.
     pub set: u16,

@@ -36,7 +36,7 @@ use segment_keys::SegmentKey;
 use std::alloc::{AllocError, Global};
 
 /// What a call comes to.
-#[derive(Debug, Drop)]
+#[derive(Drop)]
 pub enum Ready {
     /// It is answered.
     Answer(Answer),

@@ -28,7 +28,7 @@ use std::marker::Model;
 
 // Of one main storage database: the key of the segment found last, and whether the last call to the database was a
 // hold get that found it.
-#[derive(Debug, Drop)]
+#[derive(Drop)]
 pub(crate) struct Position {
     key: Option<Bytes>,
     held: bool,
@@ -78,7 +78,7 @@ fn drop_last<T: Drop>(list: &mut List<T>)
 
 /// What one transaction keeps to itself until its end: its positions, its deferred calls, the anchors whose roots it
 /// has, as it sees them, and its sequential inserts.
-#[derive(Debug, Drop)]
+#[derive(Drop)]
 pub struct Work {
     positions: Vec<Position>,
     // Those whose segments the queue inserts or deletes.
@@ -88,7 +88,7 @@ pub struct Work {
 }
 
 /// What a transaction hands to its sync point.
-#[derive(Debug, Drop)]
+#[derive(Drop)]
 pub struct Parts {
     /// The deferred calls, in call order.
     pub deferred: List<Deferred>,

@@ -3,7 +3,7 @@
 use fp_model::{Bytes, Outcome};
 
 /// What running a transaction alone comes to.
-#[derive(Debug, PartialEq, Eq, Drop)]
+#[derive(Drop)]
 pub enum Alone {
     /// It ends so: Done with the reply of its script, or Verify, Roll or SeqFull with an empty one.
     Ends { outcome: Outcome, reply: Bytes },

@@ -23,7 +23,7 @@ enum Place {
 
 /// The segments of a main storage database at every place. Contracts see its keys with their values (`Past`), which
 /// show a database at each place.
-#[derive(Debug, Drop)]
+#[derive(Drop)]
 pub struct PastSegments {
     alloc: Global,
     // The length of a key.

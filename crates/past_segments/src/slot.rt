@@ -7,14 +7,14 @@ use fp_model::{Bytes, List};
 use std::alloc::{AllocError, Global};
 
 /// What the segment of a key is from a place on; `None` where there is none.
-#[derive(Debug, Drop)]
+#[derive(Drop)]
 pub(crate) struct Version {
     pub(crate) from: u64,
     pub(crate) segment: Option<Bytes>,
 }
 
 /// A key, and its values, the oldest first.
-#[derive(Debug, Drop)]
+#[derive(Drop)]
 pub(crate) struct Slot {
     pub(crate) key: Bytes,
     pub(crate) versions: List<Version>,

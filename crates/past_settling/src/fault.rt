@@ -6,7 +6,7 @@ use fp_model::Bytes;
 use std::alloc::AllocError;
 
 /// Why a queue isn't settled.
-#[derive(Debug, PartialEq, Eq, Drop)]
+#[derive(Drop)]
 pub enum QueueFault {
     /// A field call fails: its place in the queue and that of the field search argument, both from 0 (65,535 where the
     /// segment is absent), and the bytes of the field as the argument met it.

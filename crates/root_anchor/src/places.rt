@@ -16,7 +16,7 @@ use fp_model::{List, SegDef};
 use std::alloc::Global;
 
 /// Where a root stands, and its newest serial.
-#[derive(Clone, Copy, Debug, PartialEq, Eq)]
+#[derive(Clone, Copy, PartialEq, Eq)]
 pub struct RootPlace {
     /// The interval of its element.
     pub ci: u64,

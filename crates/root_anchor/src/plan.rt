@@ -22,7 +22,7 @@ use std::collections::VecDeque;
 
 /// The place that a segment of a type is to take: an element in which one of that type stands. None where it takes a
 /// new one.
-#[derive(Clone, Copy, Debug)]
+#[derive(Clone, Copy)]
 pub(crate) struct Planned {
     pub(crate) segment: u8,
     pub(crate) at: Option<Pointer>,

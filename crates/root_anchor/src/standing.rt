@@ -14,7 +14,7 @@ use fp_model::{Bytes, List, SegDef};
 use std::alloc::Global;
 
 /// An element in which a segment stands.
-#[derive(Debug, Drop)]
+#[derive(Drop)]
 pub(crate) struct Standing {
     /// The number of its segment type.
     pub(crate) segment: u8,

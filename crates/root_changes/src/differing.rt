@@ -8,7 +8,7 @@ ghost use Rattle.root_changes.specs.Differing.{NodesDiffer, RowDiffers, RootDiff
 use fp_model::{Bytes, List, Node, Root, SeqItem};
 
 /// Where two things differ, of which each is a list, or a segment with all below it.
-#[derive(Clone, Copy, Debug)]
+#[derive(Clone, Copy)]
 pub enum Difference {
     /// They are the same.
     Nowhere,

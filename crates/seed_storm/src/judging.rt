@@ -17,7 +17,7 @@ const BASIS: u64 = 0xcbf2_9ce4_8422_2325;
 const PRIME: u64 = 0x0100_0000_01b3;
 
 /// Where something differs, and what.
-#[derive(Debug, Drop)]
+#[derive(Drop)]
 pub(crate) struct Difference {
     pub run: usize,
     /// The call at which the run was stopped; none where it was whole.

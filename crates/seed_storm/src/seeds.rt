@@ -30,7 +30,7 @@ pub(crate) struct Run<'a> {
 }
 
 /// What is wanted behind a group.
-#[derive(Clone, Copy, Debug)]
+#[derive(Clone, Copy)]
 pub(crate) struct Group<'a> {
     /// Where the closed gate stands.
     pub end: usize,

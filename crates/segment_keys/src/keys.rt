@@ -11,7 +11,7 @@ use std::collections::BTreeSet;
 use std::marker::Model;
 
 /// A segment of a main storage database: the database's number, and the bytes of the segment's key.
-#[derive(Debug, PartialEq, Eq, PartialOrd, Ord, Drop)]
+#[derive(PartialEq, Eq, PartialOrd, Ord, Drop)]
 pub struct SegmentKey {
     msdb: u8,
     key: Vec<u8>,
@@ -30,7 +30,7 @@ impl SegmentKey {
 }
 
 /// A set of segments. Contracts see them as the resources that they are, of which each call says what is among them.
-#[derive(Debug, Drop)]
+#[derive(Drop)]
 pub struct Keys {
     keys: BTreeSet<SegmentKey>,
 }

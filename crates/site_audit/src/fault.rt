@@ -8,7 +8,7 @@ use log_groups::LogFault;
 use std::alloc::AllocError;
 
 /// Why a log was not found legal.
-#[derive(Clone, Copy, Debug, PartialEq, Eq)]
+#[derive(Clone, Copy)]
 pub enum AuditFault {
     /// The log doesn't begin with the open front.
     Foreign,

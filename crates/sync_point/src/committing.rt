@@ -27,7 +27,7 @@ use std::alloc::AllocError;
 const MOST: usize = 1 << 32;
 
 /// What a transaction whose script has replied hands to its sync point.
-#[derive(Debug, Drop)]
+#[derive(Drop)]
 pub struct Draft {
     /// How many entries stood as it began.
     pub from: u64,

@@ -31,14 +31,14 @@ const GREATEST_COST: u64 = 1_000_000_000;
 const DEEPEST: usize = 64;
 
 /// The statements of a block so far, and what they cost, up to 1,000,000,000.
-#[derive(Debug, Drop)]
+#[derive(Drop)]
 pub(crate) struct Block {
     pub(crate) statements: List<Statement>,
     pub(crate) cost: u64,
 }
 
 /// What opened a block.
-#[derive(Debug, Drop)]
+#[derive(Drop)]
 pub(crate) enum Opening {
     /// IF, in its first block.
     Choice {
@@ -60,7 +60,7 @@ pub(crate) enum Opening {
 }
 
 /// An open block: what opened it, the line of that, and the block that it stands in, up to it.
-#[derive(Debug, Drop)]
+#[derive(Drop)]
 pub(crate) struct Frame {
     pub(crate) opening: Opening,
     pub(crate) line: u32,
@@ -68,7 +68,7 @@ pub(crate) struct Frame {
 }
 
 /// What the lines so far make.
-#[derive(Debug, Drop)]
+#[derive(Drop)]
 pub(crate) struct Builder {
     /// The name of the script that is being read; None before the first TRAN.
     pub(crate) begun: Option<Name>,

@@ -44,7 +44,7 @@ impl<T: Drop> From<AllocFailed<T>> for ScriptFault {
 }
 
 /// Why a line is not read.
-#[derive(Clone, Copy, Debug, PartialEq, Eq)]
+#[derive(Clone, Copy)]
 pub(crate) enum LineFault {
     /// It is no statement, or can't stand where it does.
     Syntax,

@@ -2,7 +2,7 @@
 use fp_model::{Comparison, Get, Name, Operand, Statement};
 
 /// The word that a statement line begins with.
-#[derive(Clone, Copy, Debug, PartialEq, Eq)]
+#[derive(Clone, Copy)]
 pub(crate) enum Keyword {
     Tran,
     Set,
@@ -22,7 +22,7 @@ pub(crate) enum Keyword {
 }
 
 /// A statement line.
-#[derive(Debug, Drop)]
+#[derive(Drop)]
 pub(crate) enum Line {
     /// `TRAN name`.
     Tran(Name),
@@ -41,7 +41,7 @@ pub(crate) enum Line {
 }
 
 /// A segment search argument as it is written: a word, and a key in parentheses where there is one.
-#[derive(Debug, Drop)]
+#[derive(Drop)]
 pub(crate) struct WrittenSsa {
     pub(crate) name: Name,
     pub(crate) key: Option<Operand>,

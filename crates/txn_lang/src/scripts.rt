@@ -56,7 +56,7 @@ pub(crate) fn number_scripts(
 }
 
 /// Scripts, with the text that they were read from.
-#[derive(Debug, Drop)]
+#[derive(Drop)]
 pub struct Scripts {
     text: Bytes,
     scripts: List<Script>,

@@ -2,7 +2,7 @@
 use fp_model::{Bytes, Name};
 
 /// A token.
-#[derive(Debug, Drop)]
+#[derive(Drop)]
 pub(crate) enum Token {
     /// A word, and whether a `=` stands directly behind it.
     Word { name: Name, assigned: bool },

@@ -13,7 +13,7 @@ use std::alloc::AllocError;
 const NO_VALUE: u16 = 99;
 
 /// What a statement does.
-#[derive(Debug, Drop)]
+#[derive(Drop)]
 pub(crate) enum Deed {
     /// Sets a variable.
     Set(Name, Bytes),

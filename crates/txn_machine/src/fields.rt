@@ -17,7 +17,7 @@ use packed_dec::{read_number, write_number};
 use std::alloc::{AllocError, Global};
 
 /// A segment type: its fields, and whether the first of them is a key.
-#[derive(Clone, Copy, Debug)]
+#[derive(Clone, Copy)]
 pub(crate) struct Layout<'a> {
     pub(crate) fields: &'a [FieldDef],
     pub(crate) has_key: bool,

@@ -14,7 +14,7 @@ use std::alloc::{AllocError, Global};
 use std::collections::BTreeMap;
 
 /// What the answer to a call is good for, beside its status.
-#[derive(Clone, Copy, Debug)]
+#[derive(Clone, Copy)]
 pub(crate) enum Lesson {
     /// A segment of a database.
     Segment(u8),
@@ -24,7 +24,7 @@ pub(crate) enum Lesson {
 }
 
 /// What a program knows.
-#[derive(Debug, Drop)]
+#[derive(Drop)]
 pub(crate) struct Known {
     pub(crate) alloc: Global,
     /// The variables that were set.

@@ -6,7 +6,7 @@ use fp_model::Bytes;
 use std::alloc::{AllocError, Global};
 
 /// The text of an operand.
-#[derive(Debug, Drop)]
+#[derive(Drop)]
 pub(crate) enum OperandText<'a> {
     /// As it stands in the script, in the message, or in what the program knows.
     Lent(&'a [u8]),

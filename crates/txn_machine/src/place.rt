@@ -13,7 +13,7 @@ use fp_model::{List, Statement};
 use std::alloc::AllocError;
 
 /// An open block: the place behind the statement that opened it, in the block around it, and what it is there.
-#[derive(Clone, Copy, Debug)]
+#[derive(Clone, Copy)]
 pub(crate) enum Frame {
     /// A block of an IF: the first, or the one behind ELSE.
     Choice { behind: usize, holds: bool },
@@ -22,7 +22,7 @@ pub(crate) enum Frame {
 }
 
 /// The open blocks, the outermost first, and a place in the innermost.
-#[derive(Debug, Drop)]
+#[derive(Drop)]
 pub(crate) struct Place {
     pub(crate) frames: List<Frame>,
     pub(crate) at: usize,

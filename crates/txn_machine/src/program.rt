@@ -29,7 +29,7 @@ use std::alloc::{AllocError, Global};
 use txn_lang::Scripts;
 
 /// What a script comes to.
-#[derive(Debug, Drop)]
+#[derive(Drop)]
 pub enum Next {
     /// A call, which is to be answered.
     Call(Call),
@@ -40,14 +40,14 @@ pub enum Next {
 }
 
 /// A call that was given: the place behind its statement, and what its answer is good for.
-#[derive(Clone, Copy, Debug)]
+#[derive(Clone, Copy)]
 pub(crate) struct Wait {
     pub(crate) behind: usize,
     pub(crate) lesson: Lesson,
 }
 
 /// A script on its way: where it is, and what it knows.
-#[derive(Debug, Drop)]
+#[derive(Drop)]
 pub struct Program {
     /// The number of the script.
     number: u32,

@@ -9,7 +9,7 @@ use fp_model::{Bytes, List};
 use std::alloc::{AllocError, Global};
 
 /// A segment that a get showed: the number of its type, and its bytes.
-#[derive(Debug, Drop)]
+#[derive(Drop)]
 pub(crate) struct Shown {
     pub(crate) segment: u8,
     pub(crate) bytes: Bytes,
@@ -17,7 +17,7 @@ pub(crate) struct Shown {
 
 /// The segments that gets showed: the newest with the number of its database, and the last one of each database
 /// before that, at the place of its number.
-#[derive(Debug, Drop)]
+#[derive(Drop)]
 pub(crate) struct Gets {
     pub(crate) db: u8,
     pub(crate) newest: Shown,
