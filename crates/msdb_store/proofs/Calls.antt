@@ -1,8 +1,9 @@
 -- What one call of a queue comes to, from what it makes of its segment.
-use Rattle.std.proofs.Common.{◌≡◌, refl, sym, ◌∙◌, ap, subst, arith, ℕ, zero, suc, ◌<◌, ◌≤◌, List, [], ◌∷◌, length, map, slice_index_or, take, Bool, true, false, Option, Some, None, slice_get, slice_set, inl, inr, Bor}
+use Rattle.std.proofs.Common.{◌≡◌, refl, sym, ◌∙◌, ap, subst, arith, ℕ, zero, suc, ◌<◌, ◌≤◌, List, [], ◌∷◌, length, map, slice_index_or, take, Bool, true, false, ◌==◌, Option, Some, None, slice_get, slice_set, inl, inr, Bor}
 use Rattle.std.specs.Prelude.{Result, Ok, Err, ⊤, IsTrue, ◌↔◌, is_none}
 use Rattle.std.specs.Option.{option_copied}
 use Rattle.std.specs.List.{AllZip, AllByRecursion}
+use Rattle.std.proofs.lemmas.Bool.Decides.{nat_tests}
 use Rattle.std.proofs.lemmas.List.{length-map, length-take-le}
 use Rattle.fld_calls.specs.Settling.{IsSettled}
 use Rattle.fld_calls.specs.declared.arguments.SettleFault.{SettleFault}
@@ -261,6 +262,17 @@ none_past defs msdbs n key past = in_as defs msdbs n key ∙ ap (in_database def
 pub some_bytes : (r : Bool) (bytes : List ℕ) → (IsTrue r ↔ (bytes ≡ [])) → r ≡ false → has_bytes bytes ≡ true
 some_bytes r [] iff e = let yes_it_is : r ≡ true = iff.1 refl in absurd (not_both (sym yes_it_is ∙ e))
 some_bytes r (b ∷ bytes) iff e = refl
+
+-- a slice of no bytes, and of some
+pub none_there : (r : Bool) (bytes : List ℕ) → r ≡ (length bytes == 0) → r ≡ true → bytes ≡ []
+none_there r [] is e = refl
+none_there r (b ∷ bytes) is e =
+    let more : (length (b ∷ bytes) == 0) ≡ false = grind (arith, nat_tests) in
+    absurd (not_both (sym e ∙ is ∙ more))
+
+pub some_there : (r : Bool) (bytes : List ℕ) → r ≡ (length bytes == 0) → r ≡ false → has_bytes bytes ≡ true
+some_there r [] is e = absurd (not_both (sym is ∙ e))
+some_there r (b ∷ bytes) is e = refl
 
 pub no_bytes : (r : Bool) (bytes : List ℕ) → (IsTrue r ↔ (bytes ≡ [])) → r ≡ true → has_bytes bytes ≡ false
 no_bytes r bytes iff e = ap has_bytes (iff.0 e)

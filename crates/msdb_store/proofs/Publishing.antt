@@ -1,6 +1,6 @@
 -- Staged items put one after another.
 use Rattle.std.proofs.Common.{◌≡◌, refl, sym, ◌∙◌, ap, subst, arith, ℕ, ◌<◌, ◌≤◌, ◌+◌, List, [], ◌∷◌, Bool, true, false, ◌&&◌, ◌||◌, ◌==◌, inl, inr, nat_lt}
-use Rattle.std.specs.Prelude.{if◌then◌else◌, ◌⊎◌, count_by, is_none}
+use Rattle.std.specs.Prelude.{if◌then◌else◌, ◌⊎◌, count_by, is_none, Result, Ok, Err, IsOk, OnOk}
 use Rattle.std.specs.List.{AllByRecursion}
 use Rattle.std.proofs.lemmas.Bool.Decides.{nat_tests}
 use Rattle.std.proofs.lemmas.List.Sums.{sum_by-cons}
@@ -8,6 +8,7 @@ use Rattle.fp_model.specs.Items.{with_item, with_items}
 use Rattle.fp_model.specs.ItemTargets.{is_ascending, precedes}
 use Rattle.fp_model.specs.State.{is_below}
 use Rattle.fp_model.specs.Texts.{same_text}
+use Rattle.fp_model.specs.declared.database.Msdb.{Msdb}
 use Rattle.fp_model.specs.declared.definitions.MsdbDef.{MsdbDef}
 use Rattle.fp_model.specs.declared.log.Item.{Item}
 use Rattle.fp_model.specs.declared.log.Item.TheVariants.{Segment, Image, Range}
@@ -181,6 +182,34 @@ one_more defs old now new staged (Segment n k bytes) rest s is of keeps =
       spare = omega (arith, count, first, spare, keeps.spare);
       few = λ few. keeps.few (s.few few);
     }
+
+-- where none of the items left adds a segment the first doesn't,
+pub first_adds_none : (defs : List MsdbDef) (msdbs : List Msdb) (item : Item) (rest : List Item)
+    → count_by (adds defs msdbs) (item ∷ rest) ≡ 0 → adds defs msdbs item ≡ false
+first_adds_none defs msdbs item rest none = by (adds defs msdbs item) (sym (count_cons (adds defs msdbs) item rest) ∙ none)
+  where
+    by : (b : Bool) → (if b then 1 else 0) + count_by (adds defs msdbs) rest ≡ 0 → b ≡ false
+    by true e = absurd (omega (arith, e))
+    by false e = refl
+
+-- and behind it none of the others does
+pub others_add_none : (defs : List MsdbDef) (old now new : Stored) (staged : Changes) (item : Item) (rest : List Item)
+    → IsPublishing defs old now staged (item ∷ rest) → new.msdbs ≡ with_item defs now.msdbs item
+    → count_by (adds defs now.msdbs) (item ∷ rest) ≡ 0 → count_by (adds defs new.msdbs) rest ≡ 0
+others_add_none defs old now new staged (Image set ci bytes) rest s is none = absurd s.segments.0
+others_add_none defs old now new staged (Range set ci at bytes) rest s is none = absurd s.segments.0
+others_add_none defs old now new staged (Segment n k bytes) rest s is none =
+    let behind = all_behind n k bytes rest s.segments.1 s.order in
+    let count : count_by (adds defs new.msdbs) rest ≡ count_by (adds defs now.msdbs) rest =
+    ap (λ ms. count_by (adds defs ms) rest) is ∙ count_behind defs now n k bytes s.of s.fit.0 rest s.segments.1
+    behind in
+    let first = count_cons (adds defs now.msdbs) (Segment n k bytes) rest in
+    omega (arith, count, first, none)
+
+-- a call that is done has what it has at Ok
+pub done_so : {T E P : Type 0} (r : Result T E) → IsOk r → OnOk r P → P
+done_so (Ok value) done holds = holds
+done_so (Err e) done holds = absurd (not_both (sym done))
 
 -- at the end
 pub all_put : (defs : List MsdbDef) (old now : Stored) (staged : Changes) → IsPublishing defs old now staged []

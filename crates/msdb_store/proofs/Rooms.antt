@@ -106,3 +106,20 @@ module _ {T : Type 0} (fields : T → List FieldDef) (segments : T → List (Lis
               → key_of d.fields (b ∷ bytes) ≡ key
           by_segment d f (inl none) = cc
           by_segment d f (inr whole) = key_is d key (b ∷ bytes) f.key_length whole.1
+
+-- a segment with bytes that fits a database is as long as its definition says
+pub whole_at : (defs : List MsdbDef) (n : ℕ) (def : MsdbDef) (key bytes : List ℕ) → slice_get defs n ≡ Some def
+    → IsFitSegment defs (Segment n key bytes) → has_bytes bytes ≡ true → length bytes ≡ def.length
+whole_at defs n def key [] there fit some = cc
+whole_at defs n def key (b ∷ bytes) there fit some = by fit.2.segment
+  where
+    same_def : (d e : MsdbDef) → Some d ≡ Some e → d ≡ e
+    same_def d e eq = cc
+
+    same : fit.0 ≡ def
+    same = same_def fit.0 def (sym fit.1 ∙ there)
+
+    by : ((b ∷ bytes ≡ []) ⊎ ((length (b ∷ bytes) ≡ fit.0.length) × (take (length key) (b ∷ bytes) ≡ key)))
+        → length (b ∷ bytes) ≡ def.length
+    by (inl none) = cc
+    by (inr whole) = whole.0 ∙ ap (λ (d : MsdbDef). d.length) same

@@ -1,5 +1,5 @@
 -- Slots and the order of their numbers: what an edit of the order makes of the segments.
-use Rattle.std.proofs.Common.{◌≡◌, refl, sym, ◌∙◌, ap, subst, arith, ℕ, zero, suc, ◌<◌, ◌≤◌, ◌+◌, ◌-◌, List, [], ◌∷◌, ◌++◌, map, length, take, Bool, true, false, ◌==◌, slice_set, slice_index_or}
+use Rattle.std.proofs.Common.{◌≡◌, refl, sym, ◌∙◌, ap, subst, arith, ℕ, zero, suc, ◌<◌, ◌≤◌, ◌+◌, ◌-◌, List, [], ◌∷◌, ◌++◌, map, length, take, Bool, true, false, ◌==◌, None, Some, slice_get, slice_set, slice_index_or}
 use Rattle.std.specs.Prelude.{if◌then◌else◌, Result, Ok, Err, IsOk, is_ok}
 use Rattle.std.specs.List.{AllByRecursion, insert, remove}
 use Rattle.std.proofs.lemmas.Bool.Decides.{nat_tests}
@@ -9,7 +9,8 @@ use Rattle.std.proofs.lemmas.List.Sums.{sum_by-cons, sum_by-insert, sum_by-remov
 use Rattle.fp_model.specs.State.{ascend, is_below, numbers_up}
 use Rattle.key_order.specs.Places.{IsPlace}
 use Rattle.msdb_store.specs.Slots.{AreSlots, in_slots, slot_of, times}
-use Rattle.key_order.proofs.Ascending.{not_both}
+use Rattle.std.proofs.lemmas.Option.{slice_get-map}
+use Rattle.key_order.proofs.Ascending.{not_both, stands_there}
 
 -- ---- how often a number stands in a list
 
@@ -456,3 +457,33 @@ place_as slots count key ns n within p = (
   λ i d low high. let inside : i < length ns = omega (arith, high, map_length (slot_of slots) ns) in
       ap (λ s. is_below (take count s) key) (get_or-map (slot_of slots) ns i 0 d inside) ∙ p.1 i 0 low inside,
 )
+
+-- what is so of all is so of the one at a place
+pub each_at : {X : Type 0} (P : X → Type 0) (xs : List X) (i : ℕ) (x : X) → slice_get xs i ≡ Some x
+    → AllByRecursion P xs → P x
+each_at P [] i x at all = absurd cc
+each_at P (y ∷ ys) zero x at all = let same : y ≡ x = cc in subst P same all.0
+each_at P (y ∷ ys) (suc i) x at all = each_at P ys i x at all.1
+
+slot_at : (slots : List (List ℕ)) (h : ℕ) (s : List ℕ) → h < length slots → s ≡ slice_index_or slots h s
+    → slot_of slots h ≡ s
+slot_at [] h s lt is = absurd (omega (arith, lt))
+slot_at (x ∷ xs) zero s lt is = sym is
+slot_at (x ∷ xs) (suc h) s lt is = slot_at xs h s (omega (arith, lt)) is
+
+-- the segment in the slot of the number at a place
+pub stands_used : (slots : List (List ℕ)) (order : List ℕ) (used at h : ℕ) (s : List ℕ)
+    → AreSlots (length slots) order used → at < used → slice_index_or order at h ≡ h → s ≡ slice_index_or slots h s
+    → slice_get (in_slots slots (take used order)) at ≡ Some s
+stands_used slots order used at h s are within e is =
+    let long : length (take used order) ≡ used = length-take used order ∙ omega (arith, are.within) in
+    let low : h < length slots = subst (λ n. n < length slots) e
+    (named_slot (length slots) order used at h are (omega (arith, within, are.within))) in
+    slice_get-map (slot_of slots) (take used order) at
+    ∙ found (stands_there (take used order) at h (omega (arith, within, long)) ∙ ap Some
+    (take_reads order used at h within ∙ e))
+    ∙ ap Some (slot_at slots h s low is)
+  where
+    found : slice_get (take used order) at ≡ Some h → (elim (slice_get (take used order) at)
+        [ None ↦ None | Some x ↦ Some (slot_of slots x) ]) ≡ Some (slot_of slots h)
+    found e = rw e refl

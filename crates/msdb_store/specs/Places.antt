@@ -1,5 +1,5 @@
 -- Where a key stands among elements whose keys ascend.
-use Rattle.std.specs.Prelude.{◌≡◌, ℕ, ◌<◌, ◌≤◌, List, true, Option, Some, None, slice_get}
+use Rattle.std.specs.Prelude.{◌≡◌, ℕ, ◌<◌, ◌≤◌, List, true, Some, None, slice_get}
 use Rattle.fp_model.specs.Texts.{same_text}
 use Rattle.key_order.specs.Places.{IsPlace, if_same}
 use Rattle.msdb_store.specs.declared.keyed.Place.{Place}

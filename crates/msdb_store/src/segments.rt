@@ -4,7 +4,7 @@ ghost use Rattle.key_order.specs.Places.{IsPlace};
 ghost use Rattle.msdb_store.specs.Slots.{in_slots, slot_of};
 ghost use Rattle.msdb_store.specs.Store.{room};
 ghost use Rattle.std.specs.Option.{option_copied};
-ghost use Rattle.std.specs.Prelude.{◌≡◌, ℕ, ◌-◌, ◌<◌, ◌≤◌, ◌^◌, [], IfOk, IsOk, OnErr, OnOk, Some, false, insert, length, map, remove, slice_get, slice_index_or, slice_set, take, true};
+ghost use Rattle.std.specs.Prelude.{◌≡◌, ℕ, ◌-◌, ◌<◌, ◌≤◌, ◌^◌, [], IfOk, IsOk, OnErr, OnOk, Some, List as ListOf, false, insert, length, map, remove, slice_get, slice_index_or, slice_set, take, true};
 
 use crate::keyed::key_in;
 use fp_model::Bytes;
@@ -57,6 +57,17 @@ fn put_over(alloc: Global, slot: &mut Bytes, segment: Bytes)
     let mut bytes = replace(slot, Bytes::new(alloc)).into_vec();
     bytes.as_mut_slice().copy_from_slice(segment.as_slice());
     *slot = Bytes::from_vec(bytes);
+}
+
+// Puts a copy of a segment into the memory of one that is as long.
+fn write_over(alloc: Global, slot: &mut Bytes, segment: &[u8])
+    ensures { length slot.old ≡ length segment.now → slot.new ≡ segment.now }
+{
+    if slot.len() == segment.len() {
+        let mut bytes = replace(slot, Bytes::new(alloc)).into_vec();
+        bytes.as_mut_slice().copy_from_slice(segment);
+        *slot = Bytes::from_vec(bytes);
+    }
 }
 
 // Whether the segment in a slot has a lower key.
@@ -194,6 +205,38 @@ impl Segments {
         let number = self.order[at];
         let alloc = *self.slots.allocator();
         put_over(alloc, &mut self.slots[number as usize], segment);
+    }
+
+    // Puts a copy of a segment in place of the one at a place, which is as long. Takes no memory.
+    fn write(&mut self, at: usize, segment: &[u8])
+        requires within { at < length self.old.items }
+        requires long { (there : ListOf ℕ) → slice_get self.old.items at ≡ Some there
+            → length there ≡ length segment.now }
+        ensures items { self.new.items ≡ slice_set self.old.items at segment.now }
+        ensures capacity { self.old.capacity ≤ self.new.capacity }
+    {
+        let number = self.order[at];
+        let alloc = *self.slots.allocator();
+        write_over(alloc, &mut self.slots[number as usize], segment);
+    }
+
+    // Puts a copy of a segment in place of the one at a place. Where that is as long no memory is taken. Want of memory
+    // changes nothing.
+    pub(crate) fn set_copy(&mut self, at: usize, segment: &[u8]) -> Result<(), AllocError>
+        requires { at < length self.old.items }
+        ensures items { OnOk result (self.new.items ≡ slice_set self.old.items at segment.now) }
+        ensures err { OnErr result (self.new.items ≡ self.old.items) }
+        ensures done { (there : ListOf ℕ) → slice_get self.old.items at ≡ Some there
+            → length there ≡ length segment.now → IsOk result }
+        ensures capacity { self.old.capacity ≤ self.new.capacity }
+    {
+        if self.at(at).len() == segment.len() {
+            self.write(at, segment);
+            return Ok(());
+        }
+        let copy = Bytes::from_slice(*self.slots.allocator(), segment)?;
+        self.set(at, copy);
+        Ok(())
     }
 
     // Puts a segment at a place; the later ones come behind it. It fails for want of memory, and where there would be

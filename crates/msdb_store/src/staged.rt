@@ -68,6 +68,14 @@ impl Staged {
         self.items.clone()
     }
 
+    /// The same items, which are handed on.
+    pub fn into_items(self) -> List<Item>
+        ensures { result ≡ self.items }
+    {
+        let Staged { items, inserts: _ } = self;
+        items
+    }
+
     /// How many segments the databases get that they lack.
     pub fn inserts(&self) -> u32
         ensures { result ≡ self.now.inserts }

@@ -89,7 +89,7 @@ impl MsdbStore {
     ghost use Rattle.msdb_store.specs.Store.{IsFitSegment, IsOf, found, found_after};
     ghost use Rattle.std.specs.List.{AllByRecursion};
     ghost use Rattle.std.specs.Option.{option_copied, option_map};
-    ghost use Rattle.std.specs.Prelude.{IsOk, List as ListOf, Some, slice_get};
+    ghost use Rattle.std.specs.Prelude.{IsOk, List as ListOf, Some, false, slice_get};
     ghost use Rattle.fp_model.specs.declared.database.Msdb.{Msdb as MsdbOf};
     ghost use Rattle.fp_model.specs.declared.definitions.MsdbDef.{MsdbDef as DefOf};
     ghost use Rattle.fp_model.specs.declared.log.Item.TheVariants.{Segment};
@@ -199,13 +199,43 @@ impl MsdbStore {
         ensures of { (defs : ListOf DefOf) → IsOf defs self.old → IsFitSegment defs item.now → IsOf defs self.new }
         ensures count { length self.new.msdbs ≡ length self.old.msdbs }
         ensures few { AreFew self.old.msdbs → AreFew self.new.msdbs }
+        ensures done { (defs : ListOf DefOf) → CanPut defs self.old item.now
+            → adds defs self.old.msdbs item.now ≡ false → IsOk result }
+        ensures room { (defs : ListOf DefOf) → CanPut defs self.old item.now
+            → KeepsRoom self.old self.new (adds defs self.old.msdbs item.now) }
     {
         match item {
             Item::Segment { msdb, key, bytes } => {
-                self.put_segment(*msdb, key.as_slice(), bytes.copy()?)
+                self.copy_segment(*msdb, key.as_slice(), bytes.as_slice())
             }
             Item::Image { .. } | Item::Range { .. } => Ok(()),
         }
+    }
+
+    // Puts a copy of a segment in place of that of its key, or takes that one away where there are no bytes. It fails
+    // for want of memory, and takes none but where it adds a segment.
+    fn copy_segment(&mut self, msdb: u8, key: &[u8], bytes: &[u8]) -> Result<(), AllocError>
+        ensures msdbs { (defs : ListOf DefOf) → IsOf defs self.old → IsFitSegment defs (Segment msdb key.now bytes.now)
+            → OnOk result (self.new.msdbs ≡ with_item defs self.old.msdbs (Segment msdb key.now bytes.now)) }
+        ensures of { (defs : ListOf DefOf) → IsOf defs self.old → IsFitSegment defs (Segment msdb key.now bytes.now)
+            → IsOf defs self.new }
+        ensures count { length self.new.msdbs ≡ length self.old.msdbs }
+        ensures few { AreFew self.old.msdbs → AreFew self.new.msdbs }
+        ensures done { (defs : ListOf DefOf) → CanPut defs self.old (Segment msdb key.now bytes.now)
+            → adds defs self.old.msdbs (Segment msdb key.now bytes.now) ≡ false → IsOk result }
+        ensures room { (defs : ListOf DefOf) → CanPut defs self.old (Segment msdb key.now bytes.now)
+            → KeepsRoom self.old self.new (adds defs self.old.msdbs (Segment msdb key.now bytes.now)) }
+    {
+        let at = msdb as usize;
+        if at >= self.tables.len() {
+            return Ok(());
+        }
+        if bytes.is_empty() {
+            self.tables[at].take_away(key);
+            return Ok(());
+        }
+        let alloc = *self.tables.allocator();
+        self.tables[at].put_copy(alloc, bytes)
     }
 
     // Puts a segment in place of that of its key, or takes that one away where there are no bytes. It fails for want of
@@ -272,6 +302,25 @@ impl MsdbStore {
         let Staged { items, inserts: _ } = staged;
         for item in items.into_vec() {
             self.publish_item(item);
+        }
+    }
+
+    /// Gives the databases items that add no segment, and keeps none of them. Takes no memory. They were staged on the
+    /// databases as they are.
+    pub fn publish_over(&mut self, items: &List<Item>)
+        requires staged { (defs : ListOf DefOf) × IsOf defs self.old
+            × IsStaged defs self.old.msdbs (record { items = items.now; inserts = 0 }) }
+        ensures msdbs { (defs : ListOf DefOf) → IsOf defs self.old
+            → IsStaged defs self.old.msdbs (record { items = items.now; inserts = 0 })
+            → self.new.msdbs ≡ with_items defs self.old.msdbs items.now }
+        ensures of { (defs : ListOf DefOf) → IsOf defs self.old
+            → IsStaged defs self.old.msdbs (record { items = items.now; inserts = 0 }) → IsOf defs self.new }
+        ensures spare { (defs : ListOf DefOf) → IsOf defs self.old
+            → IsStaged defs self.old.msdbs (record { items = items.now; inserts = 0 }) → self.old.spare ≤ self.new.spare }
+    {
+        for item in items.as_slice() {
+            // It adds no segment, so it takes no memory and is done.
+            let _ = self.put_item(item);
         }
     }
 

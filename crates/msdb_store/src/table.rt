@@ -2,9 +2,10 @@
 ghost use Rattle.fp_model.specs.State.{ascend, drop_key, is_below, key_length, key_of, put_by_key};
 ghost use Rattle.fp_model.specs.Texts.{same_text};
 ghost use Rattle.msdb_store.specs.Places.{IsPlaced, IsWithin};
+ghost use Rattle.std.specs.List.{AllByRecursion};
 ghost use Rattle.std.specs.Option.{option_copied};
 ghost use Rattle.msdb_store.specs.Store.{lacks, room};
-ghost use Rattle.std.specs.Prelude.{slice_get, ◌≡◌, ◌+◌, ◌<◌, ◌≤◌, IfOk, IsOk, ◌^◌, ℕ, List as ListOf, OnErr, OnOk, Some, find, if◌then◌else◌, length, map, take, true};
+ghost use Rattle.std.specs.Prelude.{slice_get, ◌≡◌, ◌+◌, ◌<◌, ◌≤◌, IfOk, IsOk, ◌^◌, ℕ, List as ListOf, OnErr, OnOk, Some, false, find, if◌then◌else◌, length, map, take, true};
 
 use crate::heads::{Heads, head_of};
 use crate::keyed::{Place, is_same, key_in};
@@ -153,6 +154,36 @@ impl Table {
             Place::Lacks(at) => {
                 self.segments.insert(at, segment)?;
                 self.heads.insert(at, head);
+            }
+        }
+        Ok(())
+    }
+
+    // Puts a copy of a segment in place of that of its key, or at its place. It fails only for want of memory, and takes
+    // none where there is one of that key, which is as long.
+    pub(crate) fn put_copy(&mut self, alloc: Global, segment: &[u8]) -> Result<(), AllocError>
+        ensures ok { ascend (map (key_of self.old.fields) self.old.segments.items) ≡ true
+            → OnOk result (self.new.segments.items
+            ≡ put_by_key (key_of self.old.fields) segment.now
+            (drop_key (key_of self.old.fields) (key_of self.old.fields segment.now) self.old.segments.items)) }
+        ensures err { OnErr result (self.new.segments.items ≡ self.old.segments.items) }
+        ensures fields { self.new.fields ≡ self.old.fields }
+        ensures done { (n : ℕ) → ascend (map (key_of self.old.fields) self.old.segments.items) ≡ true
+            → lacks self.old.fields self.old.segments.items segment.now ≡ false
+            → AllByRecursion (λ there. length there ≡ n) self.old.segments.items
+            → length segment.now ≡ n → IsOk result }
+        ensures long { ascend (map (key_of self.old.fields) self.old.segments.items) ≡ true
+            → length self.new.segments.items ≤ length self.old.segments.items +
+            (if lacks self.old.fields self.old.segments.items segment.now then 1 else 0) }
+        ensures few { length self.old.segments.items < 2 ^ 32 → length self.new.segments.items < 2 ^ 32 }
+        ensures capacity { self.old.segments.capacity ≤ self.new.segments.capacity }
+    {
+        let key = key_in(segment, self.key_length());
+        match self.place(key) {
+            Place::Stands(at) => self.segments.set_copy(at, segment)?,
+            Place::Lacks(_) => {
+                let copy = Bytes::from_slice(alloc, segment)?;
+                self.put(copy)?;
             }
         }
         Ok(())

@@ -6,6 +6,7 @@ ghost use Rattle.fp_model.specs.ItemTargets.{is_ascending};
 ghost use Rattle.fp_model.specs.LogText.{FitsEntry, KeepsRules};
 ghost use Rattle.fp_model.specs.Serial.{settled_as};
 ghost use Rattle.fp_model.specs.Settle.{Stands, VerifyFails, settle};
+ghost use Rattle.fp_model.specs.WellFormed.{IsMsdbDef};
 ghost use Rattle.fp_model.specs.Workspace.{Workspace};
 ghost use Rattle.fp_model.specs.declared.database.Db.{Db};
 ghost use Rattle.fp_model.specs.declared.definitions.Defs.{Defs};
@@ -145,6 +146,68 @@ fn publish(
     Ok(())
 }
 
+// Appends an entry whose items add no segment, and gives the databases these. Every growth comes first.
+fn publish_over(msdbs: &mut MsdbStore, log: &mut Log, entry: &Entry) -> Result<(), AllocError>
+    requires rules { KeepsRules entry.now }
+    requires fits { FitsEntry entry.now }
+    requires staged { (defs : ListOf MsdbDef) × IsOf defs msdbs.old
+        × IsStaged defs msdbs.old.msdbs (record { items = entry.now.items; inserts = 0 }) }
+    ensures msdbs { (defs : ListOf MsdbDef) → IsOf defs msdbs.old
+        → IsStaged defs msdbs.old.msdbs (record { items = entry.now.items; inserts = 0 })
+        → OnOk result (msdbs.new.msdbs ≡ with_items defs msdbs.old.msdbs entry.now.items) }
+    ensures of { (defs : ListOf MsdbDef) → IsOf defs msdbs.old
+        → IsStaged defs msdbs.old.msdbs (record { items = entry.now.items; inserts = 0 }) → IsOf defs msdbs.new }
+    ensures unsealed { OnOk result (log.new.unsealed ≡ log.old.unsealed ++ entry.now ∷ []) }
+    ensures spare { log.old.spare ≤ log.new.spare }
+    ensures sealed { log.new.sealed ≡ log.old.sealed }
+    ensures gate { log.new.gate ≡ log.old.gate }
+
+    // Want of memory changes neither.
+    ensures segments { OnErr result (msdbs.new.msdbs ≡ msdbs.old.msdbs) }
+    ensures waiting { OnErr result (log.new.unsealed ≡ log.old.unsealed) }
+{
+    let room = log.spare();
+    append_beside(log, entry, room)?;
+    msdbs.publish_over(&entry.items);
+    Ok(())
+}
+
+// Appends the entry of a draft whose queue is settled, and gives the databases what is staged. Items that add no
+// segment are handed on to the entry, and given from there.
+fn enter(
+    draft: Draft,
+    staged: Staged,
+    msdbs: &mut MsdbStore,
+    log: &mut Log,
+) -> Result<Entry, AllocError>
+    requires staged { (defs : ListOf MsdbDef) × IsOf defs msdbs.old × IsStaged defs msdbs.old.msdbs staged
+        × AllByRecursion IsMsdbDef defs }
+    requires line { length draft.line < 2 ^ 16 }
+    requires reply { length draft.reply < 2 ^ 16 }
+    ensures entry { IfOk result (λ entry. entry ≡ done_entry draft staged.items) }
+    ensures unsealed { IfOk result (λ entry. log.new.unsealed ≡ log.old.unsealed ++ entry ∷ []) }
+    ensures msdbs { (defs : ListOf MsdbDef) → IsOf defs msdbs.old → IsStaged defs msdbs.old.msdbs staged
+        → OnOk result (msdbs.new.msdbs ≡ with_items defs msdbs.old.msdbs staged.items) }
+    ensures of { (defs : ListOf MsdbDef) → IsOf defs msdbs.old → IsStaged defs msdbs.old.msdbs staged
+        → IsOf defs msdbs.new }
+    ensures spare { log.old.spare ≤ log.new.spare }
+    ensures sealed { log.new.sealed ≡ log.old.sealed }
+    ensures gate { log.new.gate ≡ log.old.gate }
+
+    // Want of memory changes neither.
+    ensures segments { OnErr result (msdbs.new.msdbs ≡ msdbs.old.msdbs) }
+    ensures waiting { OnErr result (log.new.unsealed ≡ log.old.unsealed) }
+{
+    if staged.inserts() > 0 {
+        let entry = draft.done(staged.items()?)?;
+        publish(msdbs, log, &entry, staged)?;
+        return Ok(entry);
+    }
+    let entry = draft.done(staged.into_items())?;
+    publish_over(msdbs, log, &entry)?;
+    Ok(entry)
+}
+
 /// Settles a draft's queue, appends its entry to the log, and gives the databases its changes; or answers a cause, and
 /// changes neither. The result is the entry as it stands in the log. Memory is also the answer where the queue, the
 /// notes or the items would be 2^32 or more.
@@ -186,7 +249,6 @@ pub fn commit(draft: Draft, msdbs: &mut MsdbStore, log: &mut Log) -> Result<Entr
     ensures gate { log.new.gate ≡ log.old.gate }
 {
     let staged = draft.settled(msdbs)?;
-    let entry = draft.done(staged.items()?)?;
-    publish(msdbs, log, &entry, staged)?;
+    let entry = enter(draft, staged, msdbs, log)?;
     Ok(entry)
 }

@@ -11,7 +11,7 @@ use Rattle.sync_point.specs.declared.committing.Cause.{Cause}
 use Rattle.sync_point.specs.declared.committing.Cause.TheVariants as cause
 use Rattle.sync_point.proofs.Endings.{done_end, is_cause, refused_end}
 use Rattle.sync_point.proofs.Found.{verify_found_is_short}
-use Rattle.sync_point.proofs.Segments.{items_fit, items_short}
+use Rattle.sync_point.proofs.Segments.{items_fit}
 use Rattle.sync_point.proofs.committing.commit.Goals as goal
 
 pub returns-in_err-staged-clause-end : goal.returns-in_err-staged-clause-end
@@ -35,29 +35,26 @@ returns-in_err-staged-clause-found c call fsa found e =
     verify_found_is_short c.requires.able.0 c.requires.able.1.defined c.args.msdbs.now.msdbs c.args.draft.deferred
     call fsa found fails
 
-pub publish-requires-clause-fits : goal.publish-requires-clause-fits
-publish-requires-clause-fits c =
-    let can = c.requires.able.1 in
-    let exact = c.in_ok-entry.ensures.entry in
-    let of = c.in_ok-items.ensures in
-    let staged = c.in_ok-staged.ensures.staged c.requires.able.0 can in
-    let notes = rw exact at c.in_ok-entry.ensures.few_notes in
-    let items = rw (exact, of) at c.in_ok-entry.ensures.few_items in
-    rw (exact, of) (record {
-      outcome = tt;
-      line = c.requires.line;
-      reply = c.requires.reply;
-      notes = notes;
-      items = items;
-      each_item = items_short c.requires.able.0 c.in_ok-staged.staged.items can.defined staged.fit staged.segments;
-    })
+pub enter-requires-clause-staged : goal.enter-requires-clause-staged
+enter-requires-clause-staged c =
+    let can = c.requires.able.1 in (
+      c.requires.able.0,
+      can.of,
+      c.in_ok-staged.ensures.staged c.requires.able.0 can,
+      can.defined,
+    )
+
+pub returns-clause-msdbs : goal.returns-clause-msdbs
+returns-clause-msdbs c defs can =
+    c.in_ok-entry.ensures.msdbs defs can.of (c.in_ok-staged.ensures.staged defs can)
+    ∙ ap (λ (e : Entry). with_items defs c.args.msdbs.now.msdbs e.items) (sym c.in_ok-entry.ensures.entry)
 
 pub returns-clause-end : goal.returns-clause-end
 returns-clause-end c defs now own is =
     let draft = c.args.draft in
     let store = c.args.msdbs.now in
     let entry = c.in_ok-entry.entry in
-    let new = c.in_ok-publish.ensures.msdbs defs.msdbs is.able.of (c.in_ok-staged.ensures.staged defs.msdbs is.able) in
+    let new = c.in_ok-entry.ensures.msdbs defs.msdbs is.able.of (c.in_ok-staged.ensures.staged defs.msdbs is.able) in
     subst (λ (msdbs : List Msdb). IsEnd now msdbs (Ok entry) (settled_as now draft.reply (settlement defs now own)))
     (sym new)
     (done_end defs now own store draft is (with_items defs.msdbs store.msdbs c.in_ok-staged.staged.items) entry
@@ -68,17 +65,17 @@ returns-clause-end c defs now own is =
 pub returns-clause-fit : goal.returns-clause-fit
 returns-clause-fit c defs can =
     let staged = c.in_ok-staged.ensures.staged defs.msdbs can in
-    rw (c.in_ok-entry.ensures.entry, c.in_ok-items.ensures) (items_fit defs c.in_ok-staged.staged.items staged.fit
+    rw c.in_ok-entry.ensures.entry (items_fit defs c.in_ok-staged.staged.items staged.fit
     staged.segments)
 
 pub returns-clause-keys : goal.returns-clause-keys
 returns-clause-keys c defs can =
-    rw (c.in_ok-entry.ensures.entry, c.in_ok-items.ensures) (c.in_ok-staged.ensures.keys defs can)
+    rw c.in_ok-entry.ensures.entry (c.in_ok-staged.ensures.keys defs can)
 
 pub returns-clause-kinds : goal.returns-clause-kinds
 returns-clause-kinds c defs can =
-    rw (c.in_ok-entry.ensures.entry, c.in_ok-items.ensures) (c.in_ok-staged.ensures.staged defs can).segments
+    rw c.in_ok-entry.ensures.entry (c.in_ok-staged.ensures.staged defs can).segments
 
 pub returns-clause-in_order : goal.returns-clause-in_order
 returns-clause-in_order c defs can =
-    rw (c.in_ok-entry.ensures.entry, c.in_ok-items.ensures) (c.in_ok-staged.ensures.staged defs can).in_order
+    rw c.in_ok-entry.ensures.entry (c.in_ok-staged.ensures.staged defs can).in_order
