@@ -1,14 +1,15 @@
--- The names in the set of busy terminals, which is kept as the numbers that they spell.
-use Rattle.std.proofs.Common.{refl, arith, ℕ, suc, eqb, IsPermutation, MatchBool, ◌≡◌, ◌<◌, ◌^◌, List, [], ◌∷◌, ◌++◌, map, Bool, true, false, cond, not, ◌&&◌, ◌||◌, ap, sym, subst, ◌∙◌}
+-- The names in the set of busy terminals, which is kept in the order of the numbers that they spell.
+use Rattle.std.proofs.Common.{refl, arith, ℕ, suc, Ordering, ◌≡◌, ◌<◌, ◌^◌, List, [], ◌∷◌, ◌++◌, map, Bool, true, false, cond, not, ◌&&◌, ◌||◌, ap, sym, subst, ◌∙◌}
 use Rattle.std.proofs.lemmas.Bool.Decides.{nat_tests}
 use Rattle.std.specs.Int.{w64, from_be_bytes}
 use Rattle.std.specs.List.{All, list_any}
+use Rattle.std.specs.Ordering.{nat_cmp}
+use Rattle.std.specs.BTreeMap.{is_at}
+use Rattle.std.specs.BTreeSet.{insert_key}
 use Rattle.std.specs.Set.{remove_key}
 use Rattle.std.specs.Cmp.Lexicographic.{bytes_decides}
 use Rattle.std.proofs.lemmas.List.Folds.{list_any-append}
-use Rattle.std.proofs.lemmas.List.Elements.{All-cons}
-use Rattle.std.proofs.lemmas.List.Sorted.{All-permutation}
-use Rattle.std.proofs.lemmas.Map.Views.{All-remove_key, any-filter_same}
+use Rattle.std.proofs.lemmas.Map.Views.{All-insert_key, All-remove_key, any-filter_same}
 use Rattle.std.proofs.lemmas.Nat.{from_be_bytes-to_be_bytes_8}
 use Rattle.fp_model.specs.declared.name.Name.{Name}
 use Rattle.fp_model.specs.Machine.{is_among, same_name}
@@ -45,21 +46,21 @@ Below n = n < 2 ^ 64
 
 -- a number spells a name exactly where the name is spelled, and by that number
 spells : (name : Name) (n : ℕ) → Below n
-    → same_name name (spelled n) ≡ (is_spelled name && eqb (number_in name) n)
-spells name n small = by (same_name name (spelled n)) (is_spelled name) (eqb (number_in name) n) refl refl
+    → same_name name (spelled n) ≡ (is_spelled name && is_at (nat_cmp (number_in name)) n)
+spells name n small = by (same_name name (spelled n)) (is_spelled name) (is_at (nat_cmp (number_in name)) n) refl refl
     refl
   where
     number : same_name name (spelled n) ≡ true → number_in name ≡ n
     number e = ap number_in (same_names name (spelled n) e) ∙ from_be_bytes-to_be_bytes_8 n small
 
-    level : number_in name ≡ n → eqb (number_in name) n ≡ true
+    level : number_in name ≡ n → is_at (nat_cmp (number_in name)) n ≡ true
     level e = grind (arith, nat_tests)
 
-    alike : eqb (number_in name) n ≡ true → number_in name ≡ n
+    alike : is_at (nat_cmp (number_in name)) n ≡ true → number_in name ≡ n
     alike e = grind (arith, nat_tests)
 
     by : (s t u : Bool) → same_name name (spelled n) ≡ s → is_spelled name ≡ t
-        → eqb (number_in name) n ≡ u → s ≡ (t && u)
+        → is_at (nat_cmp (number_in name)) n ≡ u → s ≡ (t && u)
     by true true true es et eu = refl
     by true true false es et eu = absurd (not_both (sym (level (number es)) ∙ eu))
     by true false u es et eu = absurd (not_both (sym (subst (λ m. same_name name (spelled m) ≡ true)
@@ -71,7 +72,7 @@ spells name n small = by (same_name name (spelled n)) (is_spelled name) (eqb (nu
 
 -- a name is among those that numbers spell exactly where it is spelled, and its number is one of them
 pub among_spelled : (numbers : List ℕ) (name : Name) → All Below numbers
-    → is_among (map spelled numbers) name ≡ (is_spelled name && list_any (eqb (number_in name)) numbers)
+    → is_among (map spelled numbers) name ≡ (is_spelled name && list_any (is_at (nat_cmp (number_in name))) numbers)
 among_spelled [] name small = by (is_spelled name)
   where
     by : (t : Bool) → false ≡ (t && false)
@@ -79,9 +80,9 @@ among_spelled [] name small = by (is_spelled name)
     by false = refl
 among_spelled (n ∷ ns) name small =
     ap (λ b. b || is_among (map spelled ns) name) (spells name n (small 0 n (omega (arith))))
-    ∙ ap (λ b. (is_spelled name && eqb (number_in name) n) || b) (among_spelled ns name
+    ∙ ap (λ b. (is_spelled name && is_at (nat_cmp (number_in name)) n) || b) (among_spelled ns name
     (λ k d within. small (suc k) d (omega (arith, within))))
-    ∙ by (is_spelled name) (eqb (number_in name) n) (list_any (eqb (number_in name)) ns)
+    ∙ by (is_spelled name) (is_at (nat_cmp (number_in name)) n) (list_any (is_at (nat_cmp (number_in name))) ns)
   where
     by : (t u v : Bool) → ((t && u) || (t && v)) ≡ (t && (u || v))
     by true u v = refl
@@ -89,38 +90,36 @@ among_spelled (n ∷ ns) name small =
 
 -- a name that a number spells is among others exactly where the number is
 pub among_is_contained : (numbers : List ℕ) (name : Name) (n : ℕ) → All Below numbers → Below n
-    → spelled n ≡ name → list_any (eqb n) numbers ≡ is_among (map spelled numbers) name
+    → spelled n ≡ name → list_any (is_at (nat_cmp n)) numbers ≡ is_among (map spelled numbers) name
 among_is_contained numbers name n all small is =
     let number : number_in name ≡ n = ap number_in (sym is) ∙ from_be_bytes-to_be_bytes_8 n small in
     let there : is_spelled name ≡ true = own_name name (spelled (number_in name)) (sym is ∙ ap spelled (sym number)) in
-    sym (among_spelled numbers name all ∙ ap (λ b. b && list_any (eqb (number_in name)) numbers) there
-    ∙ ap (λ m. list_any (eqb m) numbers) number)
+    sym (among_spelled numbers name all ∙ ap (λ b. b && list_any (is_at (nat_cmp (number_in name))) numbers) there
+    ∙ ap (λ m. list_any (is_at (nat_cmp m)) numbers) number)
 
-pub all_put : (old new : List ℕ) (n : ℕ) (added : Bool) → All Below old → Below n
-    → MatchBool added (IsPermutation (n ∷ old) new) (new ≡ old) → All Below new
-all_put old new n true all small puts = All-permutation Below (n ∷ old) new puts (All-cons Below n old small all)
-all_put old new n false all small same = subst (All Below) (sym same) all
+pub all_put : (cmp : ℕ → ℕ → Ordering) (old new : List ℕ) (n : ℕ) → All Below old → Below n
+    → new ≡ insert_key cmp old n → All Below new
+all_put cmp old new n all small is = subst (All Below) (sym is) (All-insert_key cmp n Below old all small)
 
-pub all_left : (test : ℕ → Bool) (old new : List ℕ) → All Below old → IsPermutation (remove_key test old) new
-    → All Below new
-all_left test old new all left = All-permutation Below (remove_key test old) new left (All-remove_key test Below old all)
+pub all_left : (test : ℕ → Bool) (old new : List ℕ) → All Below old → new ≡ remove_key test old → All Below new
+all_left test old new all is = subst (All Below) (sym is) (All-remove_key test Below old all)
 
-level_back : (m n : ℕ) → eqb m n ≡ eqb n m
+level_back : (m n : ℕ) → is_at (nat_cmp m) n ≡ is_at (nat_cmp n) m
 level_back m n = grind (arith, nat_tests)
 
 -- A number that is put among others: each name is among those spelled exactly where it is the number's or was.
 pub put_last : (old new : List ℕ) (busy : List Name) (key : Name) (n : ℕ) → All Below old
     → All Below new → Below n → spelled n ≡ key → map spelled old ≡ busy
-    → ((q : ℕ) → list_any (eqb q) new ≡ cond (eqb n q) true
-    (list_any (eqb q) old))
+    → ((q : ℕ) → list_any (is_at (nat_cmp q)) new ≡ cond (is_at (nat_cmp n) q) true
+    (list_any (is_at (nat_cmp q)) old))
     → AreSame (map spelled new) (busy ++ key ∷ [])
 put_last old new busy key n all_old all_new small is shown updates name =
     let q = number_in name in
     among_spelled new name all_new
     ∙ ap (λ b. is_spelled name && b) (updates q)
-    ∙ ap (λ b. is_spelled name && cond b true (list_any (eqb q) old)) (level_back n q)
-    ∙ by (is_spelled name) (eqb q n) (list_any (eqb q) old)
-    ∙ ap (λ b. b || ((is_spelled name && eqb q n) || false)) (sym (among_spelled old name all_old)
+    ∙ ap (λ b. is_spelled name && cond b true (list_any (is_at (nat_cmp q)) old)) (level_back n q)
+    ∙ by (is_spelled name) (is_at (nat_cmp q) n) (list_any (is_at (nat_cmp q)) old)
+    ∙ ap (λ b. b || ((is_spelled name && is_at (nat_cmp q) n) || false)) (sym (among_spelled old name all_old)
     ∙ ap (λ names. is_among names name) shown)
     ∙ ap (λ b. is_among busy name || (b || false)) (sym (spells name n small) ∙ ap (same_name name) is)
     ∙ sym (list_any-append (same_name name) busy (key ∷ []))
@@ -135,16 +134,16 @@ put_last old new busy key n all_old all_new small is shown updates name =
 -- A number that is taken out: each other name stays.
 pub taken_out : (old new : List ℕ) (busy : List Name) (key : Name) (n : ℕ) → All Below old
     → All Below new → Below n → spelled n ≡ key → map spelled old ≡ busy
-    → ((q : ℕ) → list_any (eqb q) new ≡ cond (eqb n q) false
-    (list_any (eqb q) old))
+    → ((q : ℕ) → list_any (is_at (nat_cmp q)) new ≡ cond (is_at (nat_cmp n) q) false
+    (list_any (is_at (nat_cmp q)) old))
     → AreSame (map spelled new) (without key busy)
 taken_out old new busy key n all_old all_new small is shown updates name =
     let q = number_in name in
     among_spelled new name all_new
     ∙ ap (λ b. is_spelled name && b) (updates q)
-    ∙ ap (λ b. is_spelled name && cond b false (list_any (eqb q) old)) (level_back n q)
-    ∙ by (is_spelled name) (eqb q n) (list_any (eqb q) old)
-    ∙ ap (λ b. not (is_spelled name && eqb q n) && b) (sym (among_spelled old name all_old)
+    ∙ ap (λ b. is_spelled name && cond b false (list_any (is_at (nat_cmp q)) old)) (level_back n q)
+    ∙ by (is_spelled name) (is_at (nat_cmp q) n) (list_any (is_at (nat_cmp q)) old)
+    ∙ ap (λ b. not (is_spelled name && is_at (nat_cmp q) n) && b) (sym (among_spelled old name all_old)
     ∙ ap (λ names. is_among names name) shown)
     ∙ ap (λ b. not b && is_among busy name) (sym (spells name n small) ∙ ap (same_name name) is ∙ flipped name key)
     ∙ sym (any-filter_same (same_name name) (λ other. not (same_name key other)) (not (same_name key name))

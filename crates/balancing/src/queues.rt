@@ -7,7 +7,7 @@ ghost use Rattle.balancing.specs.Backlog.{AreSame, group_for, queue_of, spelled,
 use fp_exits::Router;
 use fp_model::{Message, Name};
 use std::alloc::{AllocError, Global};
-use std::collections::{HashSet, VecDeque};
+use std::collections::{BTreeSet, VecDeque};
 use std::marker::Model;
 
 /// What became of a message that was offered.
@@ -25,7 +25,7 @@ pub struct Queues {
     /// The queue of group g stands at place g - 1.
     queues: Vec<VecDeque<Message>>,
     /// Each terminal that waits, as the number that its name spells: numbers are compared at once.
-    waiting: HashSet<u64>,
+    waiting: BTreeSet<u64>,
 }
 
 // The number that the bytes of a name spell.
@@ -66,7 +66,7 @@ impl Queues {
         }
         Ok(Queues {
             queues,
-            waiting: HashSet::new(alloc),
+            waiting: BTreeSet::new(alloc),
         })
     }
 

@@ -52,8 +52,7 @@ pub returns-clause-marked : goal.returns-clause-marked
 returns-clause-marked g c =
     λ free. put_last c.self.inside.waiting.keys c.insert.new.self.keys c.args.self.now.busy c.args.message.lterm
     c.number_of.result (search rules)
-    (all_put c.self.inside.waiting.keys _ c.number_of.result _ (search rules) (search rules)
-    c.in_ok-insert.ensures.keys) (search rules)
+    (all_put _ c.self.inside.waiting.keys _ c.number_of.result (search rules) (search rules) c.in_ok-insert.ensures.keys) (search rules)
     c.number_of.ensures
     (ap (λ b. b.busy) c.self.view_is) c.in_ok-insert.ensures.updates.0
 
@@ -61,6 +60,6 @@ pub invariant_of-self-2 : goal.invariant_of-self-2
 invariant_of-self-2 g c = (
   search rules,
   search rules,
-  all_put c.self.inside.waiting.keys _ c.number_of.result _ c.self.invariant.2 c.number_of.type_inv
+  all_put _ c.self.inside.waiting.keys _ c.number_of.result c.self.invariant.2 c.number_of.type_inv
       c.in_ok-insert.ensures.keys,
 )
