@@ -32,3 +32,4 @@ pub mod GapPlaces
 pub mod ChangeLemmas
 pub mod Directs
 pub mod Takings
+pub mod ComingLemmas

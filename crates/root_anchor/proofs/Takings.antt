@@ -4,7 +4,7 @@ use Rattle.std.proofs.lemmas.List.{append-nil, map-append}
 use Rattle.std.proofs.lemmas.List.Elements.{All-pop}
 use Rattle.ci_space.specs.declared.intervals.Shape.{Shape}
 use Rattle.ci_space.specs.Interval.{IsUsed}
-use Rattle.ci_overflow.specs.Lists.{bytes_at, IsInOrder}
+use Rattle.ci_overflow.specs.Lists.{bytes_at}
 use Rattle.fp_model.specs.declared.definitions.SegDef.{SegDef}
 use Rattle.fp_model.specs.declared.database.Root.{Root}
 use Rattle.anchor_elements.specs.Elements.{Pointer}
@@ -13,12 +13,12 @@ use Rattle.root_anchor.specs.declared.plan.Planned.{Planned}
 use Rattle.root_anchor.proofs.Exchanging.{exchange-again, exchange-both}
 use Rattle.root_anchor.proofs.Planning.{exchange-none, reserved-append, reserved-disjoint, reserved-left, reserved-right, rooms-right, rooms-stay, rooms-used, still-reserved}
 
-pub none-taken : (shape : Shape) (types : List SegDef) (area : List (List ℕ)) (plan : List Planned) → IsInOrder shape area
+pub none-taken : (shape : Shape) (types : List SegDef) (area : List (List ℕ)) (plan : List Planned)
     → IsTaking shape types area area plan plan []
-none-taken shape types area plan o = record {
+none-taken shape types area plan = record {
   done = [];
   parts = sym (append-nil plan);
-  takes = record { exchange = exchange-none shape area o; kinds = refl; rooms = tt };
+  takes = record { exchange = exchange-none shape area; kinds = refl; rooms = tt; placed = tt };
 }
 
 -- the next one has room, if it has a place
@@ -70,6 +70,7 @@ taken-on shape types old now new plan left before taken p at r t e x =
               (λ m. elim (t.takes.exchange.fresh q c) as (λ _. ⊥) [ inl y ↦ d q m y | inr y ↦ y (u q m) ]) h)
               t.takes.rooms,
         );
+        placed = (record { place = at; is_place = refl }, t.takes.placed);
       };
     }
 
@@ -83,12 +84,12 @@ all-taken shape types old now plan left taken e t =
 
 pub taken-planned : (shape : Shape) (types : List SegDef) (old new : List (List ℕ)) (plan taken : List Planned)
     (roots : List Root) → types_of plan ≡ types_of_roots types roots → TakesPlaces shape types old new plan taken
-    → IsPlanned shape types new taken [] taken (types_of_roots types roots)
+    → IsPlanned types new taken [] taken (types_of_roots types roots)
 taken-planned shape types old new plan taken roots k t = record {
-  in_order = t.exchange.in_order;
   parts = refl;
   kinds_are = t.kinds ∙ k;
   are_reserved = record { rooms = t.rooms; once = t.exchange.once };
+  placed = t.placed;
 }
 
 pub taken-built : (shape : Shape) (types : List SegDef) (old mid new : List (List ℕ)) (plan taken : List Planned)

@@ -1,5 +1,6 @@
 pub mod Chains
 pub mod Damage
+pub mod Faults
 pub mod Formed
 pub mod Roots
 pub mod Newest

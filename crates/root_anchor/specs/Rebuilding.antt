@@ -2,8 +2,9 @@
 use Rattle.std.specs.Prelude.{◌≡◌, ◌⊎◌, ℕ, ◌<◌, List, [], ◌∷◌, ◌++◌, length, map, flat_map, Contains, false, slice_get, Option, Some, None, IfSome, ⊤}
 use Rattle.ci_space.specs.declared.intervals.Shape.{Shape}
 use Rattle.ci_space.specs.Interval.{HasUsed, IsUsed, HasRoom}
-use Rattle.ci_overflow.specs.Lists.{bytes_at, IsInOrder}
-use Rattle.ci_overflow.specs.Rooms.{KeepsRoots}
+use Rattle.ci_overflow.specs.Lists.{bytes_at, IsInOrder, IsInPlace}
+use Rattle.ci_overflow.specs.Places.{base_of}
+use Rattle.ci_overflow.specs.Rooms.{KeepsKinds, KeepsRoots}
 use Rattle.fp_model.specs.declared.definitions.SegDef.{SegDef}
 use Rattle.fp_model.specs.declared.database.Node.{Node}
 use Rattle.fp_model.specs.declared.database.Node.TheOpen.{Node-F}
@@ -24,9 +25,9 @@ AreApart [] = ⊤
 AreApart (at ∷ rest) = (¬ Contains rest at) × AreApart rest
 
 -- The elements `had` give way to the elements `has`: every other used element stays, and none comes; an element that
--- comes was none before. Root anchor points and the sequential part stay.
+-- comes was none before. Root anchor points stay, and each interval is of its kind still. An area that was in order is
+-- so again, and its sequential part stays.
 pub record Exchanges (shape : Shape) (old new : List (List ℕ)) (had has : List Pointer) : Type 0 where
-  pub in_order : IsInOrder shape new
   pub stay : (at : Pointer) (type : ℕ) (content : List ℕ) → ¬ Contains had at
       → HasUsed (bytes_at old at.0) at.1 type content → HasUsed (bytes_at new at.0) at.1 type content
   pub none_comes : (at : Pointer) (type : ℕ) (content : List ℕ) → ¬ Contains has at
@@ -36,7 +37,9 @@ pub record Exchanges (shape : Shape) (old new : List (List ℕ)) (had has : List
   pub used : (at : Pointer) → Contains has at → IsUsed (bytes_at new at.0) at.1
   pub once : AreApart has
   pub roots : KeepsRoots old new
-  pub sequential : KeepsSequential shape old new
+  pub kinds : KeepsKinds old new
+  pub in_order : IsInOrder shape old → IsInOrder shape new
+  pub sequential : IsInOrder shape old → KeepsSequential shape old new
 
 -- ---- places that are reserved for segments
 
@@ -59,6 +62,15 @@ HaveRoom types area type planned = IfSome planned (λ at. HasRoom (bytes_at area
 abbrev pub HaveRooms : List SegDef → List (List ℕ) → List Planned → Type 0
 HaveRooms types area [] = ⊤
 HaveRooms types area (p ∷ plan) = HaveRoom types area p.segment p.at × HaveRooms types area plan
+
+-- each segment of a plan has a place
+pub record HasPlace (p : Planned) : Type 0 where
+  pub place : Pointer
+  pub is_place : p.at ≡ Some place
+
+abbrev pub HavePlaces : List Planned → Type 0
+HavePlaces [] = ⊤
+HavePlaces (p ∷ plan) = HasPlace p × HavePlaces plan
 
 -- places reserved, each for one segment
 pub record AreReserved (types : List SegDef) (area : List (List ℕ)) (plan : List Planned) : Type 0 where
@@ -119,13 +131,13 @@ pub record IsDirect (types : List SegDef) (type : ℕ) : Type 0 where
   pub defined : type < length types
   pub direct : IfSome (slice_get types type) (λ def. def.sequential ≡ false)
 
--- In an area in order a plan ends in places reserved for segments of these types.
-pub record IsPlanned (shape : Shape) (types : List SegDef) (area : List (List ℕ)) (plan before used : List Planned)
-    (kinds : List ℕ) : Type 0 where
-  pub in_order : IsInOrder shape area
+-- A plan ends in places reserved for segments of these types, one for each.
+pub record IsPlanned (types : List SegDef) (area : List (List ℕ)) (plan before used : List Planned) (kinds : List ℕ) :
+    Type 0 where
   pub parts : plan ≡ before ++ used
   pub kinds_are : types_of used ≡ kinds
   pub are_reserved : AreReserved types area used
+  pub placed : HavePlaces used
 
 -- the place that was planned is given, or one that is new, with room for the type
 pub record TakesPlace (shape : Shape) (types : List SegDef) (old new : List (List ℕ)) (type : ℕ)
@@ -139,6 +151,7 @@ pub record TakesPlaces (shape : Shape) (types : List SegDef) (old new : List (Li
   pub exchange : Exchanges shape old new (reserved plan) (reserved taken)
   pub kinds : types_of taken ≡ types_of plan
   pub rooms : HaveRooms types new taken
+  pub placed : HavePlaces taken
 
 -- so it is for the last segments of a plan; these are left
 pub record IsTaking (shape : Shape) (types : List SegDef) (old now : List (List ℕ)) (plan left taken : List Planned) :
@@ -147,13 +160,7 @@ pub record IsTaking (shape : Shape) (types : List SegDef) (old now : List (List 
   pub parts : plan ≡ left ++ done
   pub takes : TakesPlaces shape types old now done taken
 
--- a segment is put into the place that was planned, or into a new one
-pub record PlacesSegment (shape : Shape) (types : List SegDef) (old new : List (List ℕ)) (type : ℕ)
-    (planned : Option Pointer) (at : Pointer) (segment : Segment) : Type 0 where
-  pub exchange : Exchanges shape old new (and_place planned []) (at ∷ [])
-  pub has : HasSegment types new type at segment
-
--- rows are built in the places that were reserved for them, and in new ones
+-- rows are built in the places that were reserved for them
 pub record BuildsRows (shape : Shape) (types : List SegDef) (old new : List (List ℕ)) (used : List Planned)
     (kinds : List ℕ) (firsts : List Pointer) (rows : List (List Node)) : Type 0 where
   pub elements : List Pointer
@@ -213,11 +220,11 @@ pub record AreGivable (area : List (List ℕ)) (places : List Pointer) : Type 0 
   pub used : (at : Pointer) → Contains places at → IsUsed (bytes_at area at.0) at.1
   pub once : AreApart places
 
--- An area in order, a plan for these roots, and the rest of what their anchor had: the places of both are used
--- elements, each once, and those of the plan have room.
-pub record IsRebuildable (shape : Shape) (types : List SegDef) (area : List (List ℕ)) (plan : List Planned)
+-- An anchor whose base interval is in its place, a plan for these roots, and the rest of what the anchor had: the places
+-- of both are used elements, each once, and those of the plan have room.
+pub record IsRebuildable (shape : Shape) (types : List SegDef) (area : List (List ℕ)) (anchor : ℕ) (plan : List Planned)
     (rest : List Standing) (roots : List Root) : Type 0 where
-  pub in_order : IsInOrder shape area
+  pub base : IsInPlace shape area (base_of shape anchor)
   pub kinds_are : types_of plan ≡ types_of_roots types roots
   pub rooms : HaveRooms types area plan
   pub used : (at : Pointer) → Contains (places_of rest) at → IsUsed (bytes_at area at.0) at.1

@@ -10,6 +10,7 @@ ghost use Rattle.anchor_elements.specs.Elements.{AreTypes, Segment, HasSegment};
 ghost use Rattle.anchor_elements.specs.Puts.{PutsSegment};
 ghost use Rattle.root_anchor.specs.Chains.{anchor_count};
 ghost use Rattle.root_anchor.specs.Damage.{ChainFails};
+ghost use Rattle.root_anchor.specs.Faults.{ListsFail};
 ghost use Rattle.root_changes.specs.Differing.{RootsDiffer};
 ghost use Rattle.root_changes.specs.Gaining.{RootsGain};
 ghost use Rattle.root_anchor.specs.Differing.{ChangesAlone};
@@ -154,6 +155,8 @@ fn rewrite_held<I: Intervals>(
         → result ≢ Err (AnchorFault.Damaged ci) }
     ensures damaged { I.told i.old → ¬ HasChain shape.now segments.now (I.intervals i.old) anchor → (ci : ℕ)
         → result ≡ Err (AnchorFault.Damaged ci) → ChainFails shape.now segments.now (I.intervals i.old) anchor ci }
+    ensures lists { I.told i.old → HasChain shape.now segments.now (I.intervals i.old) anchor → (ci : ℕ)
+        → result ≡ Err (AnchorFault.Damaged ci) → ListsFail shape.now segments.now (I.intervals i.old) anchor ci }
     ensures stood { I.told i.old → OnOk result (HasChain shape.now segments.now (I.intervals i.old) anchor
         ⊎ ChangesAlone shape.now segments.now (I.intervals i.old) (I.intervals i.new) anchor before.now after.now) }
 
@@ -261,6 +264,8 @@ pub fn rewrite<I: Intervals>(
         → result ≢ Err (AnchorFault.Damaged ci) }
     ensures damaged { I.told i.old → ¬ HasChain shape.now segments.now (I.intervals i.old) anchor → (ci : ℕ)
         → result ≡ Err (AnchorFault.Damaged ci) → ChainFails shape.now segments.now (I.intervals i.old) anchor ci }
+    ensures lists { I.told i.old → HasChain shape.now segments.now (I.intervals i.old) anchor → (ci : ℕ)
+        → result ≡ Err (AnchorFault.Damaged ci) → ListsFail shape.now segments.now (I.intervals i.old) anchor ci }
     ensures stood { I.told i.old → before.now ≢ after.now
         → OnOk result (HasChain shape.now segments.now (I.intervals i.old) anchor
         ⊎ ChangesAlone shape.now segments.now (I.intervals i.old) (I.intervals i.new) anchor before.now after.now) }

@@ -9,6 +9,7 @@ use Rattle.held_intervals.specs.Holding.{overlaid, AreRead, keeps_itself}
 use Rattle.held_intervals.proofs.Holds.{held_number, on_settled}
 use Rattle.root_anchor.specs.Damage.{ChainFails}
 use Rattle.root_anchor.specs.Differing.{ChangesAlone}
+use Rattle.root_anchor.specs.Faults.{ListsFail}
 use Rattle.root_anchor.specs.Formed.{IsFormed, HasChain, HasRoots}
 use Rattle.root_anchor.specs.Gaps.{AddsOne, FewChange, SegmentsStay}
 use Rattle.root_anchor.specs.Stored.{ApartKeep, OthersKeep, KeepsSequential}
@@ -52,6 +53,11 @@ pub returns-in_err-size-clause-sound : goal.returns-in_err-size-clause-sound
 returns-in_err-size-clause-sound g c = λ told o h ci e.
     let p = err_from_is_err_and c.from_residual.result c.from_residual.ensures.1 in
     chain_sound h ci (c.begin.ensures.damaged told c.args.segments.now ci (cc (p.1, p.2, c.in_err-size.was)))
+
+pub returns-in_err-size-clause-lists : goal.returns-in_err-size-clause-lists
+returns-in_err-size-clause-lists g c = λ told h ci e.
+    let p = err_from_is_err_and c.from_residual.result c.from_residual.ensures.1 in
+    absurd (chain_sound h ci (c.begin.ensures.damaged told c.args.segments.now ci (cc (p.1, p.2, c.in_err-size.was))))
 
 pub settle-result-requires : goal.settle-result-requires
 settle-result-requires g c =
@@ -285,6 +291,18 @@ returns-clause-damaged g c = λ told broken ci e.
     subst (λ a. ChainFails c.args.shape.now c.args.segments.now a c.args.anchor ci) b.over
     (c.rewrite_held-rewritten.ensures.damaged b.told_held
     (subst (λ a. ¬ HasChain c.args.shape.now c.args.segments.now a c.args.anchor) (sym b.over) broken) ci
+    (c.settle-result.ensures.damaged ci e))
+
+pub returns-clause-lists : goal.returns-clause-lists
+returns-clause-lists g c = λ told chain ci e.
+    let q = c.new-held.result in
+    let n = c.rewrite_held-rewritten.new.i in
+    let b = starts c.begin.ensures.look c.new-held.ensures.under (c.new-held.ensures.size ∙ c.in_ok-size.ensures.size)
+    (subst (λ m. AreRead (get nat_cmp m) (g.I.Intervals.intervals c.args.i.now)) (sym c.new-held.ensures.read)
+    (c.in_ok-size.ensures.read told)) c.new-held.ensures.none_changed g.met.I.Intervals.numbered told in
+    subst (λ a. ListsFail c.args.shape.now c.args.segments.now a c.args.anchor ci) b.over
+    (c.rewrite_held-rewritten.ensures.lists b.told_held
+    (subst (λ a. HasChain c.args.shape.now c.args.segments.now a c.args.anchor) (sym b.over) chain) ci
     (c.settle-result.ensures.damaged ci e))
 
 pub returns-clause-goes_on : goal.returns-clause-goes_on
