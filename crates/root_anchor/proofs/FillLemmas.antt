@@ -5,13 +5,9 @@ use Rattle.std.proofs.lemmas.List.Elements.{Contains-append_left, Contains-appen
 use Rattle.ci_space.specs.declared.intervals.Shape.{Shape}
 use Rattle.ci_space.specs.Interval.{IsUsed}
 use Rattle.ci_space.proofs.Contents.{used-type}
-use Rattle.ci_overflow.specs.Lists.{bytes_at, owner_of, IsInOrder, IsInPlace}
-use Rattle.ci_space.specs.declared.head.Head.{Head}
-use Rattle.ci_space.specs.Head.{head_of}
+use Rattle.ci_overflow.specs.Lists.{bytes_at, IsInOrder, IsInPlace}
 use Rattle.ci_overflow.specs.Places.{base_of, first_base, uow_of}
-use Rattle.ci_overflow.specs.Rooms.{IsOwnRoom, TakesOne, its_base, a_dependent, an_independent}
-use Rattle.ci_overflow.proofs.Finds.{same_or}
-use Rattle.ci_overflow.proofs.Tries.{head-owner}
+use Rattle.ci_overflow.specs.Rooms.{IsOwnRoom, TakesOne}
 use Rattle.fp_model.specs.declared.definitions.SegDef.{SegDef}
 use Rattle.fp_model.specs.declared.database.Node.{Node}
 use Rattle.fp_model.specs.declared.database.Root.{Root}
@@ -28,21 +24,22 @@ use Rattle.root_anchor.specs.declared.gaps.Link.TheVariants.{Next, FirstChild}
 use Rattle.root_anchor.specs.declared.standing.Standing.{Standing}
 use Rattle.root_anchor.specs.Chains.{AreRows, no_row, row_end, segment, AreRoots, no_root, root, newest, root_of, anchor_count}
 use Rattle.root_anchor.specs.Differing.{ChangesAlone}
-use Rattle.root_anchor.specs.Formed.{HasRoots, IsFormed}
+use Rattle.root_anchor.specs.Formed.{HasRoots, IsFormed, NewAreOwn}
 use Rattle.root_anchor.specs.Gaps.{AddsOne, FewChange, SegmentsStay, StaysIn, linked, Refills, Fills, MeetsOneMore, IsGapInRoots, Adds, AddsBehind, AddsInFront, says_added, links_to}
 use Rattle.root_anchor.specs.Puts.{PutsRoot}
 use Rattle.root_anchor.specs.Rebuilding.{Exchanges, AreApart, RootsStand, Rebuilds, Shares, met_after}
 use Rattle.root_anchor.specs.Standing.{places_of, AreStanding}
 use Rattle.root_anchor.specs.Stored.{ApartKeep}
-use Rattle.root_anchor.proofs.AloneLemmas.{made_root}
+use Rattle.root_anchor.proofs.AloneLemmas.{alone_chain, made_root}
 use Rattle.root_anchor.proofs.Apart.{contains-one, holds_or, met-now, met-cases}
 use Rattle.root_anchor.proofs.Exchanging.{used-stays, exchange-both}
 use Rattle.root_anchor.proofs.Framing.{Stay, roots_stay, roots_behind}
 use Rattle.root_anchor.proofs.GapLemmas.{bare_rows, lone, lone_stands}
 use Rattle.root_anchor.proofs.Members.{none_in, front_in, behind_in, in_cases}
+use Rattle.root_anchor.proofs.OwnLemmas.{put_keeps_own, root_keeps_own}
 use Rattle.root_anchor.proofs.OneChain.{one_segment, one_chain, chain_has}
-use Rattle.root_anchor.proofs.PutLemmas.{root_keeps_segment, put_keeps_head, put_keeps_segment, segment_stays}
-use Rattle.root_anchor.proofs.Rebuilt.{place-stays, IsStored, is-stored, apart-kept}
+use Rattle.root_anchor.proofs.PutLemmas.{root_keeps_segment, put_keeps_segment, segment_stays}
+use Rattle.root_anchor.proofs.Rebuilt.{place-stays, IsStored, is-stored, apart-kept, own-kept}
 use Rattle.root_anchor.proofs.Steps.{finds-place, put-there, puts-segment, takes-one}
 
 -- ---- what was met, each once, and from its end
@@ -131,36 +128,6 @@ says_made types added firsts bytes f b =
     } in
     ap P f ∙ ap Q b
 
-same_owner : (old new : List ℕ) → (head_of new).owner ≡ (head_of old).owner → owner_of new ≡ owner_of old
-same_owner old new e = sym (head-owner new (head_of new).owner refl) ∙ e ∙ head-owner old (head_of old).owner refl
-
--- a segment that is put, and a root anchor point, leave each interval with its unit of work
-put_keeps_own : (shape : Shape) (types : List SegDef) (old new : List (List ℕ)) (anchor type : ℕ) (at : Pointer) (ci : ℕ)
-    (s : Segment) → PutsSegment types old new type at s → IsOwnRoom shape old anchor ci → IsOwnRoom shape new anchor ci
-put_keeps_own shape types old new anchor type at ci s p (its_base e) = its_base e
-put_keeps_own shape types old new anchor type at ci s p (a_dependent l h) = a_dependent l h
-put_keeps_own shape types old new anchor type at ci s p (an_independent o) = an_independent (record {
-  from = o.from;
-  below = omega (arith, o.below, p.same_number);
-  owned = same_owner (bytes_at old ci) (bytes_at new ci) (ap (λ (h : Head). h.owner)
-      (put_keeps_head types old new type at s p ci)) ∙ o.owned;
-})
-
-root_keeps_own : (shape : Shape) (old new : List (List ℕ)) (anchor ci : ℕ) (first : Pointer)
-    → PutsRoot shape old new anchor first → IsOwnRoom shape old anchor ci → IsOwnRoom shape new anchor ci
-root_keeps_own shape old new anchor ci first p (its_base e) = its_base e
-root_keeps_own shape old new anchor ci first p (a_dependent l h) = a_dependent l h
-root_keeps_own shape old new anchor ci first p (an_independent o) = an_independent (record {
-  from = o.from;
-  below = omega (arith, o.below, p.same_number);
-  owned = same_owner (bytes_at old ci) (bytes_at new ci) (elim (same_or ci (base_of shape anchor)) as
-      (λ _. (head_of (bytes_at new ci)).owner ≡ (head_of (bytes_at old ci)).owner) [
-        | inl e ↦ subst (λ c. (head_of (bytes_at new c)).owner ≡ (head_of (bytes_at old c)).owner) (sym e)
-            (ap (λ (h : Head). h.owner) p.head)
-        | inr n ↦ ap (λ bytes. (head_of bytes).owner) (p.elsewhere ci n)
-      ]) ∙ o.owned;
-})
-
 pub adds_made : (shape : Shape) (types : List SegDef) (old middle new : List (List ℕ)) (anchor : ℕ) (added : Added)
     (at : Pointer) (s : Segment) → anchor < anchor_count shape
     → TakesOne shape old middle anchor (content_length types added.segment) at
@@ -170,9 +137,9 @@ adds_made shape types old middle new anchor added at s b t e p =
     let put : PutsSegment types middle new added.segment at (says_added types added) =
     subst (λ (u : Segment). PutsSegment types middle new added.segment at u) e p in
     let place = finds-place shape types old middle added.segment anchor (content_length types added.segment) None at refl
-    refl t.takes t.in_order b in
+    refl t.takes t.in_order t.own b in
     record {
-      exchange = put-there shape types old middle new added.segment None at (says_added types added) place put;
+      exchange = put-there shape types old middle new anchor added.segment None at (says_added types added) place put;
       has = put.stands;
       named = λ ci x y z. put.elsewhere ci z ∙ t.takes.named ci x y z;
       place = λ o. (t.finds o).place;
@@ -390,9 +357,10 @@ refilled : (shape : Shape) (types : List SegDef) (old middle new : List (List �
     → (has : HasRoots shape types old anchor roots) → Exchanges shape old middle xs ys
     → ((p : Pointer) → Contains xs p → Contains has.elements p) → ((p : Pointer) → Contains xs p → Contains ys p)
     → ((p : Pointer) → Contains ys p → (p ≡ at) ⊎ Contains xs p) → Contains ys at
+    → IsOwnRoom shape middle anchor at.0
     → AreRoots types middle [] first others now → MeetsOneMore at has.elements now → PutsRoot shape middle new anchor first
     → Rebuilds shape types old new anchor [] all others
-refilled shape types old middle new anchor all roots others first at xs ys now a has e xh xy only is are more put =
+refilled shape types old middle new anchor all roots others first at xs ys now a has e xh xy only is own are more put =
     let same : has.elements ≡ a.elements = (one_chain has.is_chain a.is_chain).1 in
     let to : (p : Pointer) → Contains (places_of all) p → Contains has.elements p =
     λ p c. subst (λ (l : List Pointer). Contains l p) (sym same) ((a.same p).0 c) in
@@ -415,6 +383,14 @@ refilled shape types old middle new anchor all roots others first at xs ys now a
           (λ p c. (let s = chain_has has.is_chain p (to p c) in
           record { segment = s.type; content = s.has.content; used = s.has.used }))
           (turned_once now [] (roots_once are tt) tt (λ p c. none_in p));
+      own = λ p c. elim (met-cases now [] p c) as
+          (λ _. Contains (places_of all) p ⊎ IsOwnRoom shape middle anchor p.0) [
+            | inl m ↦ elim (more.only p m) as (λ _. Contains (places_of all) p ⊎ IsOwnRoom shape middle anchor p.0) [
+              | inl k ↦ inr (let P : Pointer → Type 0 = λ q. IsOwnRoom shape middle anchor q.0 in subst P (sym k) own)
+              | inr x ↦ inl (back p x)
+            ]
+            | inr m ↦ absurd (none_in p m)
+          ];
       stand = stands_anywhere are;
       put = put;
     }
@@ -449,7 +425,9 @@ behind_rebuilds shape types old new anchor all first roots others gap e a has g 
     (λ p c. elim (in_cases gap.holder.at (d.at ∷ []) p c) as (λ _. (p ≡ d.at) ⊎ Contains (gap.holder.at ∷ []) p) [
       | inl q ↦ inr (subst (λ u. Contains (gap.holder.at ∷ []) u) q (front_in gap.holder.at []))
       | inr q ↦ inl (sym (contains-one d.at p q))
-    ]) (behind_in gap.holder.at (d.at ∷ []) d.at (front_in d.at [])) k.are k.more
+    ]) (behind_in gap.holder.at (d.at ∷ []) d.at (front_in d.at []))
+    (put_keeps_own shape types d.middle new anchor gap.holder.segment gap.holder.at d.at.0 (links_to gap.holder d.at)
+    d.put d.adds.own) k.are k.more
     (subst (λ p. PutsRoot shape new new anchor p) (sym same) (root_stays shape new anchor
     (place-stays shape old new (base_of shape anchor) (gap.holder.at ∷ []) (gap.holder.at ∷ d.at ∷ []) x
     has.is_chain.base)))
@@ -493,7 +471,7 @@ front_rebuilds shape types old new anchor all first roots others r e a has o bar
     } in
     refilled shape types old d.middle new anchor all roots others d.at d.at [] (d.at ∷ []) now a has d.adds.exchange
     (λ p c. absurd (none_in p c)) (λ p c. absurd (none_in p c)) (λ p c. inl (sym (contains-one d.at p c)))
-    (front_in d.at []) (subst (λ l. AreRoots types d.middle [] d.at l now) (sym o) made) more d.put
+    (front_in d.at []) d.adds.own (subst (λ l. AreRoots types d.middle [] d.at l now) (sym o) made) more d.put
 
 -- ---- what a store promises
 
@@ -520,6 +498,32 @@ refill_apart shape types old now new anchor roots e b o r =
     let x = subst (λ a. Refills shape types a new anchor roots) e r in
     apart-kept shape types old old new anchor x.all x.all x.all [] roots refl refl b o x.standing (no_plan x.all)
     x.rebuilds
+
+pub refill_own : (shape : Shape) (types : List SegDef) (old now new : List (List ℕ)) (anchor : ℕ) (roots : List Root)
+    → now ≡ old → anchor < anchor_count shape → IsInOrder shape old → Refills shape types now new anchor roots
+    → NewAreOwn shape types old new anchor
+refill_own shape types old now new anchor roots e b o r =
+    let x = subst (λ a. Refills shape types a new anchor roots) e r in
+    own-kept shape types old old new anchor x.all x.all x.all [] roots refl refl b o x.standing (no_plan x.all)
+    x.rebuilds
+
+pub none_own : (shape : Shape) (types : List SegDef) (area : List (List ℕ)) (anchor : ℕ)
+    → NewAreOwn shape types area area anchor
+none_own shape types area anchor = record { each = λ at m. inl m }
+
+pub alone_own : (shape : Shape) (types : List SegDef) (old new : List (List ℕ)) (anchor : ℕ) (before after : List Root)
+    → ChangesAlone shape types old new anchor before after → HasRoots shape types old anchor before
+    → NewAreOwn shape types old new anchor
+alone_own shape types old new anchor before after it has =
+    let chain = alone_chain shape types old new anchor before after it has in
+    record {
+      each = λ at m. inl (record {
+        roots = before;
+        elements = has.elements;
+        is_chain = has.is_chain;
+        met = subst (λ (l : List Pointer). Contains l at) ((one_chain m.is_chain chain).1) m.met;
+      });
+    }
 
 -- ---- few change where one does, or none
 

@@ -15,10 +15,11 @@ use Rattle.anchor_elements.specs.Elements.{Pointer, nothing, content_length}
 use Rattle.anchor_elements.specs.Puts.{PutsSegment}
 use Rattle.root_anchor.specs.Chains.{newest}
 use Rattle.anchor_elements.specs.Elements.{AreTypes}
-use Rattle.root_anchor.specs.Rebuilding.{Exchanges, HasPlace, HaveRoom, AreReserved, and_place, reserved, types_of, IsPlanned, RowsStand, RootsStand, BuildsRows, BuildsRoots, BuildsSegment, types_step, types_below, types_in_rows, types_of_row, types_of_rows, types_of_segment, types_of_roots}
+use Rattle.root_anchor.specs.Rebuilding.{Exchanges, StandIn, IsPlaced, HaveRoom, AreReserved, and_place, reserved, types_of, IsPlanned, RowsStand, RootsStand, BuildsRows, BuildsRoots, BuildsSegment, types_step, types_below, types_in_rows, types_of_row, types_of_rows, types_of_segment, types_of_roots}
 use Rattle.root_anchor.specs.declared.plan.Planned.{Planned}
 use Rattle.root_anchor.proofs.Exchanging.{exchange-both}
 use Rattle.root_anchor.proofs.PutLemmas.{segment_stays}
+use Rattle.root_anchor.proofs.OwnLemmas.{stand-both, stand-none, stand-one}
 use Rattle.root_anchor.proofs.Steps.{puts-segment}
 use Rattle.root_anchor.proofs.Planning.{reserved-append, reserved-left, reserved-right, reserved-disjoint, rooms-used, still-reserved, IsLeft, IsNext, IsFurther, next-part, further, none-left, exchange-none, all-left}
 use Rattle.root_anchor.proofs.Rows.{no-rows, row-ends, row-begins, row-before, rows-stay, no-roots, root-begins, roots-stay}
@@ -100,6 +101,7 @@ row-none shape types area plan before used type row p =
       built = record {
         elements = [];
         exchange = exchange-none shape area;
+        stand_in = stand-none area;
         stand =
             subst Q (sym d) (row-ends types area type);
       };
@@ -140,7 +142,7 @@ row-step shape types old now new plan0 plan plan2 before used type row k next at
     let x : IsFurther shape types old now new plan2 before used n.rest (n.part ++ d.done) first d.built.elements
     (at ∷ g.1.below) =
     further shape types old now new plan0 plan plan2 before used d.left d.done (types_of_row types type row) first
-    second d.built.elements (at ∷ g.1.below) p l d.built.exchange n g.0 g.1.exchange
+    second d.built.elements (at ∷ g.1.below) p l d.built.exchange n g.0 g.1.exchange d.built.stand_in g.1.stand_in
     in
     let others : RowsStand types new (type ∷ []) (next ∷ []) (drop (suc k) row ∷ []) d.built.elements =
     rows-stay types now new (type ∷ []) (next ∷ []) (drop (suc k) row ∷ []) d.built.elements
@@ -167,6 +169,7 @@ row-step shape types old now new plan0 plan plan2 before used type row k next at
       built = record {
         elements = at ∷ (g.1.below ++ d.built.elements);
         exchange = x.exchange;
+        stand_in = x.stand_in;
         stand =
             subst Q (sym here) all;
       };
@@ -206,7 +209,7 @@ rows-none shape types area plan before used kinds rows firsts m l p =
       left = used;
       done = [];
       rest = rw (t, s) (all-left shape types area plan before used (types_of_rows types kinds rows) p);
-      built = record { elements = []; exchange = exchange-none shape area; stand = stand };
+      built = record { elements = []; exchange = exchange-none shape area; stand_in = stand-none area; stand = stand };
     }
 
 pub rows-next : (shape : Shape) (types : List SegDef) (old now : List (List ℕ)) (plan0 plan before used : List Planned)
@@ -252,7 +255,7 @@ rows-step shape types old now new plan0 plan plan2 before used kinds rows k firs
     let x : IsFurther shape types old now new plan2 before used n.rest (n.part ++ d.done) one d.built.elements
     g.1.elements =
     further shape types old now new plan0 plan plan2 before used d.left d.done (types_of_rows types kinds rows) one two
-    d.built.elements g.1.elements p l d.built.exchange n g.0 g.1.exchange
+    d.built.elements g.1.elements p l d.built.exchange n g.0 g.1.exchange d.built.stand_in g.1.stand_in
     in
     let others : RowsStand types new (drop (suc k) kinds) (drop (suc k) firsts) (drop (suc k) rows) d.built.elements =
     rows-stay types now new (drop (suc k) kinds) (drop (suc k) firsts) (drop (suc k) rows) d.built.elements
@@ -277,7 +280,7 @@ rows-step shape types old now new plan0 plan plan2 before used kinds rows k firs
       left = n.rest;
       done = n.part ++ d.done;
       rest = x.is_left;
-      built = record { elements = g.1.elements ++ d.built.elements; exchange = x.exchange; stand = stand };
+      built = record { elements = g.1.elements ++ d.built.elements; exchange = x.exchange; stand_in = x.stand_in; stand = stand };
     }
 
 pub rows-whole : (shape : Shape) (types : List SegDef) (old now : List (List ℕ)) (plan before used : List Planned)
@@ -315,6 +318,7 @@ roots-none shape types area plan before used roots p =
       built = record {
         elements = [];
         exchange = exchange-none shape area;
+        stand_in = stand-none area;
         stand =
             subst Q (sym d) (no-roots types area);
       };
@@ -356,7 +360,7 @@ roots-step shape types old now new plan0 plan plan2 before used roots k next at 
     let x : IsFurther shape types old now new plan2 before used n.rest (n.part ++ d.done) first d.built.elements
     (at ∷ g.1.below) =
     further shape types old now new plan0 plan plan2 before used d.left d.done (types_of_roots types roots) first second
-    d.built.elements (at ∷ g.1.below) p l d.built.exchange n g.0 g.1.exchange
+    d.built.elements (at ∷ g.1.below) p l d.built.exchange n g.0 g.1.exchange d.built.stand_in g.1.stand_in
     in
     let others : RootsStand types new next (drop (suc k) roots) d.built.elements =
     roots-stay types now new next (drop (suc k) roots) d.built.elements
@@ -376,6 +380,7 @@ roots-step shape types old now new plan0 plan plan2 before used roots k next at 
       built = record {
         elements = at ∷ (g.1.below ++ d.built.elements);
         exchange = x.exchange;
+        stand_in = x.stand_in;
         stand =
             subst Q (sym here) all;
       };
@@ -395,7 +400,7 @@ roots-whole shape types old now plan before used roots first d =
 pub record IsParted (types : List SegDef) (old : List (List ℕ)) (plan before used : List Planned) (type : ℕ)
     (kinds : List ℕ) : Type 0 where
   pub one : Planned
-  pub has_place : HasPlace one
+  pub has_place : IsPlaced one
   pub below : List Planned
   pub parts : used ≡ one ∷ below
   pub is_type : one.segment ≡ type
@@ -467,10 +472,15 @@ module _ (shape : Shape) (types : List SegDef) (old mid : List (List ℕ)) (plan
       λ q t content c h. own.stay q t content
       (λ m. elim (b.exchange.fresh q c) as (λ _. ⊥) [ inl y ↦ d q m y | inr y ↦ y (u q m) ]) h
       in
+      let T : List Pointer → Type 0 = λ places. StandIn mid new places (at ∷ []) in
+      let U : List Pointer → Type 0 = λ places. StandIn old new places (at ∷ b.elements) in
       record {
         firsts = firsts;
         below = b.elements;
         exchange = subst P e x;
+        stand_in = subst U e (stand-both old mid new (reserved it.below) b.elements (reserved (it.one ∷ [])) (at ∷ [])
+            b.stand_in (subst T one (stand-one types mid new type at
+            (record { next = next; serial = serial; firsts = firsts; bytes = bytes }) w)));
         has = w.stands;
         stand = rows-stay types mid new (child_types types type) firsts rows b.elements
             (λ q c t s h. segment_stays types mid new t q s (λ content. stay q t content c) h) b.stand;

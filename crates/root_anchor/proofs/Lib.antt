@@ -33,3 +33,4 @@ pub mod ChangeLemmas
 pub mod Directs
 pub mod Takings
 pub mod ComingLemmas
+pub mod OwnLemmas

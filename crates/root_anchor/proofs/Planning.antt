@@ -7,8 +7,9 @@ use Rattle.ci_space.specs.Interval.{HasUsed, IsUsed, HasRoom}
 use Rattle.ci_overflow.specs.Lists.{bytes_at}
 use Rattle.fp_model.specs.declared.definitions.SegDef.{SegDef}
 use Rattle.anchor_elements.specs.Elements.{Pointer, content_length}
-use Rattle.root_anchor.specs.Rebuilding.{AreApart, Exchanges, and_place, reserved, types_of, HaveRooms, HavePlaces, AreReserved, IsPlanned}
+use Rattle.root_anchor.specs.Rebuilding.{AreApart, Exchanges, and_place, reserved, types_of, HaveRooms, ArePlaced, AreReserved, IsPlanned, StandIn}
 use Rattle.root_anchor.specs.declared.plan.Planned.{Planned}
+use Rattle.root_anchor.proofs.OwnLemmas.{stand-both}
 use Rattle.root_anchor.proofs.Apart.{apart-left, apart-right, apart-disjoint}
 use Rattle.root_anchor.proofs.Members.{none_in, front_in, behind_in, in_cases}
 
@@ -34,11 +35,11 @@ rooms-right types area [] ys h = h
 rooms-right types area (p ∷ xs) ys h = rooms-right types area xs ys h.1
 
 -- each segment of the parts has a place
-pub places-left : (xs ys : List Planned) → HavePlaces (xs ++ ys) → HavePlaces xs
+pub places-left : (xs ys : List Planned) → ArePlaced (xs ++ ys) → ArePlaced xs
 places-left [] ys h = tt
 places-left (p ∷ xs) ys h = (h.0, places-left xs ys h.1)
 
-pub places-right : (xs ys : List Planned) → HavePlaces (xs ++ ys) → HavePlaces ys
+pub places-right : (xs ys : List Planned) → ArePlaced (xs ++ ys) → ArePlaced ys
 places-right [] ys h = h
 places-right (p ∷ xs) ys h = places-right xs ys h.1
 
@@ -185,7 +186,7 @@ next-part shape types old now plan0 plan before used left done kinds first secon
         parts = l.is_left ∙ ap (λ xs. before ++ xs) s.parts ∙ sym (append_assoc before s.left s.right);
         kinds_are = s.right_types;
         are_reserved = reserved-right types now s.left s.right (subst Q s.parts r);
-        placed = places-right s.left s.right (let R : List Planned → Type 0 = HavePlaces in
+        placed = places-right s.left s.right (let R : List Planned → Type 0 = ArePlaced in
             subst R s.parts (places-left left done (subst R l.parts p.placed)));
       };
     }
@@ -195,6 +196,7 @@ pub record IsFurther (shape : Shape) (types : List SegDef) (old now new : List (
     (plan before used rest done : List Planned) (first : List ℕ) (has more : List Pointer) : Type 0 where
   pub is_left : IsLeft plan before used rest done first
   pub exchange : Exchanges shape old new (reserved done) (more ++ has)
+  pub stand_in : StandIn old new (reserved done) (more ++ has)
   pub stay : (at : Pointer) (type : ℕ) (content : List ℕ) → Contains has at
       → HasUsed (bytes_at now at.0) at.1 type content → HasUsed (bytes_at new at.0) at.1 type content
 
@@ -204,8 +206,9 @@ pub further : (shape : Shape) (types : List SegDef) (old now new : List (List �
     → Exchanges shape old now (reserved done) has
     → (n : IsNext types now plan before left first second) → plan2 ≡ before ++ n.rest
     → Exchanges shape now new (reserved n.part) more
+    → StandIn old now (reserved done) has → StandIn now new (reserved n.part) more
     → IsFurther shape types old now new plan2 before used n.rest (n.part ++ done) first has more
-further shape types old now new plan0 plan plan2 before used left done kinds first second has more p l e n q f =
+further shape types old now new plan0 plan plan2 before used left done kinds first second has more p l e n q f i j =
     let P : List Planned → Type 0 = λ xs. AreReserved types old xs in
     let all : used ≡ n.rest ++ (n.part ++ done) = l.parts ∙ ap (λ xs. xs ++ done) n.parts ∙ append_assoc n.rest n.part
     done in
@@ -216,7 +219,10 @@ further shape types old now new plan0 plan plan2 before used left done kinds fir
     let d : (at : Pointer) → Contains (reserved n.part) at → ¬ Contains (reserved done) at =
     reserved-disjoint types old n.part done r in
     let Q : List Pointer → Type 0 = λ xs. Exchanges shape old new xs (more ++ has) in
+    let R : List Pointer → Type 0 = λ xs. StandIn old new xs (more ++ has) in
     record {
+      stand_in = subst R (sym (reserved-append n.part done))
+          (stand-both old now new (reserved done) has (reserved n.part) more i j);
       is_left = record { parts = all; is_left = q; kinds_are = n.rest_types };
       exchange = subst Q (sym (reserved-append n.part done))
           (exchange-both shape old now new (reserved done) has (reserved n.part) more e f u d);

@@ -1,29 +1,31 @@
 -- An anchor that was rebuilt in an area that is whole: it has its new roots, the other anchors theirs, and the area is
 -- whole.
-use Rattle.std.proofs.Common.{◌≡◌, ◌≢◌, ℕ, ◌<◌, inl, inr, List, [], ◌++◌, Contains, refl, sym, ◌∙◌, subst, arith}
+use Rattle.std.proofs.Common.{◌≡◌, ◌≢◌, ◌⊎◌, ℕ, ◌<◌, inl, inr, List, [], ◌++◌, Contains, refl, sym, ◌∙◌, subst, arith}
 use Rattle.ci_space.specs.declared.intervals.Shape.{Shape}
 use Rattle.ci_space.specs.Interval.{HasUsed, IsUsed}
 use Rattle.ci_overflow.specs.Places.{base_of}
 use Rattle.ci_overflow.specs.Lists.{bytes_at, IsInOrder, IsInPlace}
+use Rattle.ci_overflow.specs.Rooms.{IsOwnRoom}
 use Rattle.ci_overflow.proofs.Finds.{same_or}
 use Rattle.fp_model.specs.declared.definitions.SegDef.{SegDef}
 use Rattle.fp_model.specs.declared.database.Root.{Root}
 use Rattle.anchor_elements.specs.Elements.{Pointer}
 use Rattle.root_anchor.specs.Chains.{IsChain, AreRoots, anchor_count, root_of}
-use Rattle.root_anchor.specs.Formed.{IsFormed, HasChain, HasRoots, Meets, IsMet}
+use Rattle.root_anchor.specs.Formed.{IsFormed, HasChain, HasRoots, Meets, IsMet, NewAreOwn}
 use Rattle.root_anchor.specs.Puts.{PutsRoot}
 use Rattle.root_anchor.specs.Stored.{KeepsSequential, OthersKeep, ApartKeep}
 use Rattle.std.proofs.lemmas.List.{append-nil}
 use Rattle.root_anchor.specs.Standing.{places_of, AreStanding}
 use Rattle.root_anchor.specs.declared.plan.Planned.{Planned}
 use Rattle.root_anchor.specs.declared.standing.Standing.{Standing}
-use Rattle.root_anchor.specs.Rebuilding.{Exchanges, RootsStand, met_after, reserved, types_of, types_of_roots, AreReserved, BuildsRoots, AreGivable, IsRebuildable, Rebuilds, Shares}
+use Rattle.root_anchor.specs.Rebuilding.{Exchanges, RootsStand, met_after, reserved, types_of, types_of_roots, AreReserved, BuildsPlan, AreGivable, IsRebuildable, Rebuilds, Shares}
 use Rattle.root_anchor.proofs.Planning.{rooms-stay, rooms-used}
 use Rattle.root_anchor.proofs.Sharing.{plan-reserved}
-use Rattle.std.proofs.lemmas.List.Elements.{Contains-append_right}
+use Rattle.std.proofs.lemmas.List.Elements.{Contains-append_left, Contains-append_right}
 use Rattle.root_anchor.proofs.Apart.{holds_or, met-cases, met-now, apart-left, apart-right, apart-disjoint, apart-pairs}
 use Rattle.root_anchor.specs.Faults.{FaultComes, ListsFail}
 use Rattle.root_anchor.proofs.ComingLemmas.{fault-wider}
+use Rattle.root_anchor.proofs.OwnLemmas.{root_keeps_own}
 use Rattle.root_anchor.proofs.Members.{none_in}
 use Rattle.root_anchor.proofs.Exchanging.{sequential-joined, exchange-both}
 use Rattle.root_anchor.proofs.Framing.{Stay, roots_stay}
@@ -240,7 +242,7 @@ place-stays shape old new ci had has e p =
 pub rebuilds : (shape : Shape) (types : List SegDef) (old mid mid2 new : List (List ℕ)) (anchor : ℕ)
     (plan : List Planned) (rest : List Standing) (roots : List Root) (first : Pointer)
     → IsRebuildable shape types old anchor plan rest roots → Exchanges shape old mid (places_of rest) []
-    → BuildsRoots shape types mid mid2 plan first roots → PutsRoot shape mid2 new anchor first
+    → BuildsPlan shape types mid mid2 anchor plan first roots → PutsRoot shape mid2 new anchor first
     → Rebuilds shape types old new anchor plan rest roots
 rebuilds shape types old mid mid2 new anchor plan rest roots first r e b p =
     let x : Exchanges shape old mid2 (reserved plan ++ places_of rest) (b.elements ++ []) =
@@ -253,6 +255,9 @@ rebuilds shape types old mid mid2 new anchor plan rest roots first r e b p =
       first = first;
       elements = b.elements;
       exchange = subst P (append-nil b.elements) x;
+      own = λ at c. elim (b.own at c) as
+          (λ _. Contains (reserved plan ++ places_of rest) at ⊎ IsOwnRoom shape mid2 anchor at.0)
+          [ inl h ↦ inl (Contains-append_left (reserved plan) (places_of rest) at h) | inr o ↦ inr o ];
       stand =
           b.stand;
       put = p;
@@ -353,6 +358,41 @@ apart-kept shape types old now new anchor all rest slice plan roots e f b o a s 
           apart-stays shape types old r.middle new anchor had r.elements r.first roots it other rs es l n c
           (λ at h k. d at h (let R : List Pointer → Type 0 = λ xs. Contains xs at in
           subst R ((one_chain a.is_chain m).1) ((a.same at).0 (s.has at k))));
+    }
+
+-- each element that an anchor has was one before, or is in its own unit of work
+pub own-kept : (shape : Shape) (types : List SegDef) (old now new : List (List ℕ)) (anchor : ℕ)
+    (all rest slice : List Standing) (plan : List Planned) (roots : List Root) → now ≡ old → slice ≡ rest
+    → anchor < anchor_count shape → IsInOrder shape old → AreStanding shape types old anchor all → Shares all plan rest
+    → Rebuilds shape types now new anchor plan slice roots → NewAreOwn shape types old new anchor
+own-kept shape types old now new anchor all rest slice plan roots e f b o a s r0 =
+    let P : List (List ℕ) → Type 0 = λ area. Rebuilds shape types area new anchor plan slice roots in
+    let Q : List Standing → Type 0 = λ xs. Rebuilds shape types old new anchor plan xs roots in
+    let r : Rebuilds shape types old new anchor plan rest roots = subst Q f (subst P e r0) in
+    let had : List Pointer = reserved plan ++ places_of rest in
+    let it : IsRebuilt shape types old r.middle new anchor had r.elements r.first roots = record {
+      below = b;
+      in_order = o;
+      exchange = r.exchange;
+      stand = r.stand;
+      put = r.put;
+    } in
+    let chain : IsChain shape types new anchor roots (met_after r.elements []) =
+    new-chain shape types old r.middle new anchor had r.elements r.first roots it in
+    record {
+      each = λ at m.
+          let R : List Pointer → Type 0 = λ xs. Contains xs at in
+          let c : Contains r.elements at = elim (met-cases r.elements [] at (subst R ((one_chain m.is_chain chain).1) m.met))
+          as (λ _. Contains r.elements at) [ inl k ↦ k | inr k ↦ absurd (none_in at k) ] in
+          elim (r.own at c) as (λ _. Meets shape types old anchor at ⊎ IsOwnRoom shape new anchor at.0) [
+            | inl h ↦ inl (record {
+              roots = a.roots;
+              elements = a.elements;
+              is_chain = a.is_chain;
+              met = (a.same at).0 (s.has at h);
+            })
+            | inr w ↦ inr (root_keeps_own shape r.middle new anchor at.0 r.first r.put w)
+          ];
     }
 
 -- an anchor has the roots that stand in its elements

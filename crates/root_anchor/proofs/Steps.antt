@@ -8,7 +8,7 @@ use Rattle.ci_space.specs.Interval.{HasUsed, IsUsed, HasRoom, kind_of, has_eleme
 use Rattle.ci_space.proofs.Tilings.{size-bounds, used-kind}
 use Rattle.ci_overflow.specs.Places.{first_base, kind_at, uow_of}
 use Rattle.ci_overflow.specs.Lists.{bytes_at, first_free, IsInOrder}
-use Rattle.ci_overflow.specs.Rooms.{OnlyOneChanges, TakesRoom}
+use Rattle.ci_overflow.specs.Rooms.{IsOwnRoom, OnlyOneChanges, TakesRoom}
 use Rattle.ci_overflow.specs.Freed.{TakesBack, GivesBack}
 use Rattle.ci_overflow.proofs.Finds.{same_or, base-some}
 use Rattle.ci_overflow.proofs.FaultLemmas.{kind-base}
@@ -20,6 +20,7 @@ use Rattle.root_anchor.specs.Rebuilding.{Exchanges, and_place, HaveRoom, TakesPl
 use Rattle.root_anchor.proofs.Exchanging.{exchange-again}
 use Rattle.root_anchor.specs.Chains.{anchor_count}
 use Rattle.root_anchor.proofs.PutLemmas.{uow_below, put_keeps_order, put_keeps_head, put_keeps_kinds, put_keeps_sequential}
+use Rattle.root_anchor.proofs.OwnLemmas.{room_keeps_own}
 use Rattle.root_anchor.proofs.Apart.{contains-one}
 use Rattle.root_anchor.proofs.Members.{none_in, front_in}
 use Rattle.anchor_elements.proofs.Pointers.{same_pointer}
@@ -165,13 +166,13 @@ puts-segment shape types old new type at s p u = record {
 
 -- ---- a place for a segment
 
-pub keeps-place : (shape : Shape) (types : List SegDef) (area : List (List ℕ)) (type : ℕ) (planned : Option Pointer)
-    (at : Pointer) → planned ≡ Some at → HaveRoom types area type planned
-    → TakesPlace shape types area area type planned at
-keeps-place shape types area type planned at e h =
+pub keeps-place : (shape : Shape) (types : List SegDef) (area : List (List ℕ)) (anchor type : ℕ)
+    (planned : Option Pointer) (at : Pointer) → planned ≡ Some at → HaveRoom types area type planned
+    → TakesPlace shape types area area anchor type planned at
+keeps-place shape types area anchor type planned at e h =
     let P : Option Pointer → Type 0 = HaveRoom types area type in
     let r : HasRoom (bytes_at area at.0) at.1 (content_length types type) = subst P e h in
-    let Q : Option Pointer → Type 0 = λ p. TakesPlace shape types area area type p at in
+    let Q : Option Pointer → Type 0 = λ p. TakesPlace shape types area area anchor type p at in
     subst Q (sym e) (record {
       exchange = record {
         stay = λ p t content n u. u;
@@ -190,26 +191,32 @@ keeps-place shape types area type planned at e h =
         };
       };
       room = r;
+      own = inl refl;
+      owned = λ ci o. o;
     })
 
 pub finds-place : (shape : Shape) (types : List SegDef) (old new : List (List ℕ)) (type anchor n : ℕ)
     (planned : Option Pointer) (at : Pointer) → planned ≡ None → n ≡ content_length types type
-    → TakesRoom shape old new anchor n at → (IsInOrder shape old → IsInOrder shape new) → anchor < anchor_count shape
-    → TakesPlace shape types old new type planned at
-finds-place shape types old new type anchor n planned at e m f o b =
-    let Q : Option Pointer → Type 0 = λ p. TakesPlace shape types old new type p at in
+    → TakesRoom shape old new anchor n at → (IsInOrder shape old → IsInOrder shape new)
+    → IsOwnRoom shape new anchor at.0 → anchor < anchor_count shape
+    → TakesPlace shape types old new anchor type planned at
+finds-place shape types old new type anchor n planned at e m f o own b =
+    let Q : Option Pointer → Type 0 = λ p. TakesPlace shape types old new anchor type p at in
     let R : ℕ → Type 0 = λ n. HasRoom (bytes_at new at.0) at.1 n in
     subst Q (sym e) (record {
       exchange = finds-room shape old new anchor n at f o (uow_below shape anchor b)
           (base-some anchor shape.uows shape.base b);
       room = subst R m f.has_room;
+      own = inr own;
+      owned = λ ci i. room_keeps_own shape old new anchor n ci at (uow_below shape anchor b)
+          (base-some anchor shape.uows shape.base b) f i;
     })
 
 -- a segment that is put into the place
-pub put-there : (shape : Shape) (types : List SegDef) (old mid new : List (List ℕ)) (type : ℕ)
-    (planned : Option Pointer) (at : Pointer) (s : Segment) → TakesPlace shape types old mid type planned at
+pub put-there : (shape : Shape) (types : List SegDef) (old mid new : List (List ℕ)) (anchor type : ℕ)
+    (planned : Option Pointer) (at : Pointer) (s : Segment) → TakesPlace shape types old mid anchor type planned at
     → PutsSegment types mid new type at s → Exchanges shape old new (and_place planned []) (at ∷ [])
-put-there shape types old mid new type planned at s t p =
+put-there shape types old mid new anchor type planned at s t p =
     exchange-again shape old mid new (and_place planned []) (at ∷ []) (at ∷ []) t.exchange
     (puts-segment shape types mid new type at s p (record {
       segment = t.room.segment;

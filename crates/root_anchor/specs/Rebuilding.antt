@@ -4,7 +4,8 @@ use Rattle.ci_space.specs.declared.intervals.Shape.{Shape}
 use Rattle.ci_space.specs.Interval.{HasUsed, IsUsed, HasRoom}
 use Rattle.ci_overflow.specs.Lists.{bytes_at, IsInOrder, IsInPlace}
 use Rattle.ci_overflow.specs.Places.{base_of}
-use Rattle.ci_overflow.specs.Rooms.{KeepsKinds, KeepsRoots}
+use Rattle.ci_overflow.specs.Rooms.{IsOwnRoom, KeepsKinds, KeepsRoots}
+use Rattle.ci_space.specs.Head.{head_of}
 use Rattle.fp_model.specs.declared.definitions.SegDef.{SegDef}
 use Rattle.fp_model.specs.declared.database.Node.{Node}
 use Rattle.fp_model.specs.declared.database.Node.TheOpen.{Node-F}
@@ -64,13 +65,13 @@ HaveRooms types area [] = ⊤
 HaveRooms types area (p ∷ plan) = HaveRoom types area p.segment p.at × HaveRooms types area plan
 
 -- each segment of a plan has a place
-pub record HasPlace (p : Planned) : Type 0 where
+pub record IsPlaced (p : Planned) : Type 0 where
   pub place : Pointer
   pub is_place : p.at ≡ Some place
 
-abbrev pub HavePlaces : List Planned → Type 0
-HavePlaces [] = ⊤
-HavePlaces (p ∷ plan) = HasPlace p × HavePlaces plan
+abbrev pub ArePlaced : List Planned → Type 0
+ArePlaced [] = ⊤
+ArePlaced (p ∷ plan) = IsPlaced p × ArePlaced plan
 
 -- places reserved, each for one segment
 pub record AreReserved (types : List SegDef) (area : List (List ℕ)) (plan : List Planned) : Type 0 where
@@ -137,34 +138,50 @@ pub record IsPlanned (types : List SegDef) (area : List (List ℕ)) (plan before
   pub parts : plan ≡ before ++ used
   pub kinds_are : types_of used ≡ kinds
   pub are_reserved : AreReserved types area used
-  pub placed : HavePlaces used
+  pub placed : ArePlaced used
 
--- the place that was planned is given, or one that is new, with room for the type
-pub record TakesPlace (shape : Shape) (types : List SegDef) (old new : List (List ℕ)) (type : ℕ)
+-- The place that was planned is given, or one that is new, with room for the type. A new one is in the anchor's own unit
+-- of work, and those that were there are so still.
+pub record TakesPlace (shape : Shape) (types : List SegDef) (old new : List (List ℕ)) (anchor type : ℕ)
     (planned : Option Pointer) (at : Pointer) : Type 0 where
   pub exchange : Exchanges shape old new (and_place planned []) (at ∷ [])
   pub room : HasRoom (bytes_at new at.0) at.1 (content_length types type)
+  pub own : (planned ≡ Some at) ⊎ IsOwnRoom shape new anchor at.0
+  pub owned : (ci : ℕ) → IsOwnRoom shape old anchor ci → IsOwnRoom shape new anchor ci
+
+-- each of these elements was one of those, or is in the anchor's own unit of work
+abbrev pub HadOrOwn : Shape → List (List ℕ) → ℕ → List Pointer → List Pointer → Type 0
+HadOrOwn shape area anchor had has =
+    (at : Pointer) → Contains has at → Contains had at ⊎ IsOwnRoom shape area anchor at.0
 
 -- each segment of a plan has a place: the one that was planned, or a new one, with room for its type
-pub record TakesPlaces (shape : Shape) (types : List SegDef) (old new : List (List ℕ)) (plan taken : List Planned) :
-    Type 0 where
+pub record TakesPlaces (shape : Shape) (types : List SegDef) (old new : List (List ℕ)) (anchor : ℕ)
+    (plan taken : List Planned) : Type 0 where
   pub exchange : Exchanges shape old new (reserved plan) (reserved taken)
   pub kinds : types_of taken ≡ types_of plan
   pub rooms : HaveRooms types new taken
-  pub placed : HavePlaces taken
+  pub placed : ArePlaced taken
+  pub own : HadOrOwn shape new anchor (reserved plan) (reserved taken)
 
 -- so it is for the last segments of a plan; these are left
-pub record IsTaking (shape : Shape) (types : List SegDef) (old now : List (List ℕ)) (plan left taken : List Planned) :
-    Type 0 where
+pub record IsTaking (shape : Shape) (types : List SegDef) (old now : List (List ℕ)) (anchor : ℕ)
+    (plan left taken : List Planned) : Type 0 where
   pub done : List Planned
   pub parts : plan ≡ left ++ done
-  pub takes : TakesPlaces shape types old now done taken
+  pub takes : TakesPlaces shape types old now anchor done taken
+
+-- elements stand in these places: every interval keeps its head, and none is added
+pub record StandIn (old new : List (List ℕ)) (places elements : List Pointer) : Type 0 where
+  pub from : (at : Pointer) → Contains elements at → Contains places at
+  pub heads : (ci : ℕ) → head_of (bytes_at new ci) ≡ head_of (bytes_at old ci)
+  pub same_number : length new ≡ length old
 
 -- rows are built in the places that were reserved for them
 pub record BuildsRows (shape : Shape) (types : List SegDef) (old new : List (List ℕ)) (used : List Planned)
     (kinds : List ℕ) (firsts : List Pointer) (rows : List (List Node)) : Type 0 where
   pub elements : List Pointer
   pub exchange : Exchanges shape old new (reserved used) elements
+  pub stand_in : StandIn old new (reserved used) elements
   pub stand : RowsStand types new kinds firsts rows elements
 
 -- the same for roots
@@ -172,6 +189,7 @@ pub record BuildsRoots (shape : Shape) (types : List SegDef) (old new : List (Li
     (first : Pointer) (roots : List Root) : Type 0 where
   pub elements : List Pointer
   pub exchange : Exchanges shape old new (reserved used) elements
+  pub stand_in : StandIn old new (reserved used) elements
   pub stand : RootsStand types new first roots elements
 
 -- the same for one segment and all below it
@@ -180,8 +198,17 @@ pub record BuildsSegment (shape : Shape) (types : List SegDef) (old new : List (
   pub firsts : List Pointer
   pub below : List Pointer
   pub exchange : Exchanges shape old new (reserved used) (at ∷ below)
+  pub stand_in : StandIn old new (reserved used) (at ∷ below)
   pub has : HasSegment types new type at (record { next = next; serial = serial; firsts = firsts; bytes = bytes })
   pub stand : RowsStand types new (child_types types type) firsts rows below
+
+-- roots are built in the places of a plan, and those that it lacks are taken before
+pub record BuildsPlan (shape : Shape) (types : List SegDef) (old new : List (List ℕ)) (anchor : ℕ) (plan : List Planned)
+    (first : Pointer) (roots : List Root) : Type 0 where
+  pub elements : List Pointer
+  pub exchange : Exchanges shape old new (reserved plan) elements
+  pub own : HadOrOwn shape new anchor (reserved plan) elements
+  pub stand : RootsStand types new first roots elements
 
 -- ---- a plan
 
@@ -237,5 +264,6 @@ pub record Rebuilds (shape : Shape) (types : List SegDef) (old new : List (List 
   pub first : Pointer
   pub elements : List Pointer
   pub exchange : Exchanges shape old middle (reserved plan ++ places_of rest) elements
+  pub own : HadOrOwn shape middle anchor (reserved plan ++ places_of rest) elements
   pub stand : RootsStand types middle first roots elements
   pub put : PutsRoot shape middle new anchor first

@@ -15,7 +15,7 @@ ghost use Rattle.root_changes.specs.Differing.{RootsDiffer};
 ghost use Rattle.root_changes.specs.Gaining.{RootsGain};
 ghost use Rattle.root_anchor.specs.Differing.{ChangesAlone};
 ghost use Rattle.root_anchor.specs.Finding.{FitsType, says_of};
-ghost use Rattle.root_anchor.specs.Formed.{IsFormed, HasChain, HasRoots};
+ghost use Rattle.root_anchor.specs.Formed.{IsFormed, HasChain, HasRoots, NewAreOwn};
 ghost use Rattle.root_anchor.specs.Gaps.{AddsOne, FewChange, SegmentsStay};
 ghost use Rattle.root_anchor.specs.Stored.{are_storable, ApartKeep, OthersKeep, KeepsSequential};
 
@@ -123,6 +123,9 @@ fn rewrite_held<I: Intervals>(
     ensures apart { I.told i.old → HasRoots shape.now segments.now (I.intervals i.old) anchor before.now
         → IsInOrder shape.now (I.intervals i.old)
         → OnOk result (ApartKeep shape.now segments.now (I.intervals i.old) (I.intervals i.new) anchor) }
+    ensures own { I.told i.old → HasRoots shape.now segments.now (I.intervals i.old) anchor before.now
+        → IsInOrder shape.now (I.intervals i.old)
+        → OnOk result (NewAreOwn shape.now segments.now (I.intervals i.old) (I.intervals i.new) anchor) }
     ensures formed { I.told i.old → HasRoots shape.now segments.now (I.intervals i.old) anchor before.now
         → IsFormed shape.now segments.now (I.intervals i.old)
         → OnOk result (IsFormed shape.now segments.now (I.intervals i.new)) }
@@ -228,6 +231,9 @@ pub fn rewrite<I: Intervals>(
     ensures apart { I.told i.old → HasRoots shape.now segments.now (I.intervals i.old) anchor before.now
         → IsInOrder shape.now (I.intervals i.old)
         → OnOk result (ApartKeep shape.now segments.now (I.intervals i.old) (I.intervals i.new) anchor) }
+    ensures own { I.told i.old → HasRoots shape.now segments.now (I.intervals i.old) anchor before.now
+        → IsInOrder shape.now (I.intervals i.old)
+        → OnOk result (NewAreOwn shape.now segments.now (I.intervals i.old) (I.intervals i.new) anchor) }
     ensures formed { I.told i.old → HasRoots shape.now segments.now (I.intervals i.old) anchor before.now
         → IsFormed shape.now segments.now (I.intervals i.old)
         → OnOk result (IsFormed shape.now segments.now (I.intervals i.new)) }

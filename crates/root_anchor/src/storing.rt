@@ -10,7 +10,7 @@ ghost use Rattle.ci_overflow.specs.Lists.{IsInOrder};
 ghost use Rattle.root_anchor.specs.Chains.{anchor_count};
 ghost use Rattle.root_anchor.specs.Damage.{ChainFails};
 ghost use Rattle.root_anchor.specs.Faults.{ComesTo, FaultComes, ListsFail};
-ghost use Rattle.root_anchor.specs.Formed.{IsFormed, HasChain, HasRoots};
+ghost use Rattle.root_anchor.specs.Formed.{IsFormed, HasChain, HasRoots, NewAreOwn};
 ghost use Rattle.anchor_elements.specs.Elements.{AreTypes};
 ghost use Rattle.root_anchor.specs.Stored.{are_storable, ApartKeep, OthersKeep, KeepsSequential};
 ghost use Rattle.root_anchor.specs.Standing.{places_of};
@@ -109,13 +109,16 @@ pub(crate) fn store_held<I: Intervals>(
     requires roots { are_storable segments.now roots.now ≡ true }
 
     // In a formed area this anchor has these roots, all others keep theirs, and the area is formed again. In any area
-    // in order each anchor keeps its roots that shares no element with this one.
+    // in order each anchor keeps its roots that shares no element with this one, and new elements are in the anchor's
+    // own unit of work.
     ensures stored { I.told i.old → IsFormed shape.now segments.now (I.intervals i.old)
         → OnOk result (HasRoots shape.now segments.now (I.intervals i.new) anchor roots.now) }
     ensures others { I.told i.old → IsFormed shape.now segments.now (I.intervals i.old)
         → OnOk result (OthersKeep shape.now segments.now (I.intervals i.old) (I.intervals i.new) anchor) }
     ensures apart { I.told i.old → IsInOrder shape.now (I.intervals i.old)
         → OnOk result (ApartKeep shape.now segments.now (I.intervals i.old) (I.intervals i.new) anchor) }
+    ensures own { I.told i.old → IsInOrder shape.now (I.intervals i.old)
+        → OnOk result (NewAreOwn shape.now segments.now (I.intervals i.old) (I.intervals i.new) anchor) }
     ensures sequential { I.told i.old → IsFormed shape.now segments.now (I.intervals i.old)
         → OnOk result (KeepsSequential shape.now (I.intervals i.old) (I.intervals i.new)) }
     ensures formed { I.told i.old → IsFormed shape.now segments.now (I.intervals i.old)
@@ -173,13 +176,16 @@ pub fn store<I: Intervals>(
     requires roots { are_storable segments.now roots.now ≡ true }
 
     // In a formed area this anchor has these roots, all others keep theirs, and the area is formed again. In any area
-    // in order each anchor keeps its roots that shares no element with this one.
+    // in order each anchor keeps its roots that shares no element with this one, and new elements are in the anchor's
+    // own unit of work.
     ensures stored { I.told i.old → IsFormed shape.now segments.now (I.intervals i.old)
         → OnOk result (HasRoots shape.now segments.now (I.intervals i.new) anchor roots.now) }
     ensures others { I.told i.old → IsFormed shape.now segments.now (I.intervals i.old)
         → OnOk result (OthersKeep shape.now segments.now (I.intervals i.old) (I.intervals i.new) anchor) }
     ensures apart { I.told i.old → IsInOrder shape.now (I.intervals i.old)
         → OnOk result (ApartKeep shape.now segments.now (I.intervals i.old) (I.intervals i.new) anchor) }
+    ensures own { I.told i.old → IsInOrder shape.now (I.intervals i.old)
+        → OnOk result (NewAreOwn shape.now segments.now (I.intervals i.old) (I.intervals i.new) anchor) }
     ensures sequential { I.told i.old → IsFormed shape.now segments.now (I.intervals i.old)
         → OnOk result (KeepsSequential shape.now (I.intervals i.old) (I.intervals i.new)) }
     ensures formed { I.told i.old → IsFormed shape.now segments.now (I.intervals i.old)

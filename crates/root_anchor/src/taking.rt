@@ -37,7 +37,7 @@ fn take_place<I: Intervals>(
         → HasSeen home.now.shape.now (I.intervals i.old) (uow_of home.now.shape.now home.now.anchor) seen.old
         → HaveRoom home.now.segments.now (I.intervals i.old) planned.segment planned.at
         → IfOk result (λ at. TakesPlace home.now.shape.now home.now.segments.now (I.intervals i.old) (I.intervals i.new)
-        planned.segment planned.at at) }
+        home.now.anchor planned.segment planned.at at) }
     ensures seen { I.told i.old
         → HasSeen home.now.shape.now (I.intervals i.old) (uow_of home.now.shape.now home.now.anchor) seen.old
         → OnOk result (HasSeen home.now.shape.now (I.intervals i.new) (uow_of home.now.shape.now home.now.anchor)
@@ -75,7 +75,7 @@ pub(crate) fn take_places<I: Intervals>(
     requires direct { All (IsDirect home.now.segments.now) (types_of plan.old.items) }
     ensures taken { I.told i.old → AreReserved home.now.segments.now (I.intervals i.old) plan.old.items
         → IfOk result (λ taken. TakesPlaces home.now.shape.now home.now.segments.now (I.intervals i.old)
-        (I.intervals i.new) plan.old.items taken.items) }
+        (I.intervals i.new) home.now.anchor plan.old.items taken.items) }
     ensures sound { I.told i.old → IsInOrder home.now.shape.now (I.intervals i.old)
         → AreReserved home.now.segments.now (I.intervals i.old) plan.old.items
         → (ci : ℕ) → result ≢ Err (AnchorFault.Damaged ci) }

@@ -6,13 +6,13 @@ use Rattle.ci_overflow.proofs.FaultLemmas.{in-order-sound}
 use Rattle.ci_overflow.proofs.Joins.{on_ok-map}
 use Rattle.root_anchor.specs.Damage.{ChainFails}
 use Rattle.root_anchor.specs.Faults.{ListsFail}
-use Rattle.root_anchor.specs.Formed.{IsFormed, HasChain, HasRoots}
+use Rattle.root_anchor.specs.Formed.{IsFormed, HasChain, HasRoots, NewAreOwn}
 use Rattle.root_anchor.specs.Gaps.{AddsOne, FewChange, SegmentsStay}
 use Rattle.root_anchor.specs.Stored.{ApartKeep, OthersKeep, KeepsSequential}
 use Rattle.root_anchor.proofs.AloneLemmas.{alone_stored, alone_others, alone_apart, alone_formed, alone_sequential}
 use Rattle.root_anchor.proofs.ChangeLemmas.{roots_exclusive}
 use Rattle.root_anchor.proofs.ComingLemmas.{lists_now}
-use Rattle.root_anchor.proofs.FillLemmas.{alone_few, refill_stores, refill_apart}
+use Rattle.root_anchor.proofs.FillLemmas.{alone_few, alone_own, refill_stores, refill_apart, refill_own}
 use Rattle.root_anchor.proofs.rewriting.rewrite_held.Goals as goal
 
 pub returns-in_err-alone-clause-sound : goal.returns-in_err-alone-clause-sound
@@ -46,6 +46,10 @@ returns-then-alone-clause-others g c = λ told has formed. alone_others c.args.s
 
 pub returns-then-alone-clause-apart : goal.returns-then-alone-clause-apart
 returns-then-alone-clause-apart g c = λ told has order. alone_apart c.args.shape.now c.args.segments.now _ _
+    c.args.anchor c.args.before.now c.args.after.now (c.in_ok-alone.ensures.set told c.if-alone.true) has
+
+pub returns-then-alone-clause-own : goal.returns-then-alone-clause-own
+returns-then-alone-clause-own g c = λ told has order. alone_own c.args.shape.now c.args.segments.now _ _
     c.args.anchor c.args.before.now c.args.after.now (c.in_ok-alone.ensures.set told c.if-alone.true) has
 
 pub returns-then-alone-clause-formed : goal.returns-then-alone-clause-formed
@@ -154,6 +158,14 @@ returns-then-more-clause-apart g c = λ told has order.
     c.if-more.true in
     refill_apart c.args.shape.now c.args.segments.now _ _ _ c.args.anchor c.args.after.now same c.requires.anchor order r
 
+pub returns-then-more-clause-own : goal.returns-then-more-clause-own
+returns-then-more-clause-own g c = λ told has order.
+    let same = c.in_ok-alone.ensures.same told c.if-alone.false in
+    let told1 = c.set_alone.ensures.goes_on.tells told in
+    let r = c.in_ok-more.ensures.refills told1 (subst (λ a. IsInOrder c.args.shape.now a) (sym same) order)
+    c.if-more.true in
+    refill_own c.args.shape.now c.args.segments.now _ _ _ c.args.anchor c.args.after.now same c.requires.anchor order r
+
 pub returns-then-more-clause-alone : goal.returns-then-more-clause-alone
 returns-then-more-clause-alone g c = λ told has differ.
     let yes = c.in_ok-alone.ensures.alone told has differ in
@@ -212,6 +224,15 @@ returns-clause-apart g c = λ told has order.
     subst (λ a. OnOk c.store_held.result (ApartKeep c.args.shape.now c.args.segments.now a
     (g.I.Intervals.intervals c.store_held.new.i) c.args.anchor)) same
     (c.store_held.ensures.apart (c.set_more.ensures.goes_on.tells told1)
+    (subst (λ a. IsInOrder c.args.shape.now a) (sym same) order))
+
+pub returns-clause-own : goal.returns-clause-own
+returns-clause-own g c = λ told has order.
+    let told1 = c.set_alone.ensures.goes_on.tells told in
+    let same = c.in_ok-more.ensures.same told1 c.if-more.false ∙ c.in_ok-alone.ensures.same told c.if-alone.false in
+    subst (λ a. OnOk c.store_held.result (NewAreOwn c.args.shape.now c.args.segments.now a
+    (g.I.Intervals.intervals c.store_held.new.i) c.args.anchor)) same
+    (c.store_held.ensures.own (c.set_more.ensures.goes_on.tells told1)
     (subst (λ a. IsInOrder c.args.shape.now a) (sym same) order))
 
 pub returns-clause-formed : goal.returns-clause-formed

@@ -58,7 +58,7 @@ returns-in_err-first-clause-sound g c = λ told o r ci e.
     let told1 = c.give_back_all.ensures.goes_on.tells told in
     let taken = c.in_ok-taken.ensures.taken told1 planned in
     c.in_err-first.ensures.sound (c.take_places.ensures.goes_on.tells told1) [] c.in_ok-taken.taken.items
-    (taken-planned _ _ _ _ c.args.plan.now.items _ c.args.roots.now c.requires.kinds taken) ci
+    (taken-planned _ _ _ _ _ c.args.plan.now.items _ c.args.roots.now c.requires.kinds taken) ci
     (same_fault _ _ _ _ f.1 f.2 e)
 
 pub returns-in_err-first-clause-lists : goal.returns-in_err-first-clause-lists
@@ -70,7 +70,7 @@ returns-in_err-first-clause-lists g c = λ told r ci e.
     let told1 = c.give_back_all.ensures.goes_on.tells told in
     let taken = c.in_ok-taken.ensures.taken told1 planned in
     absurd (c.in_err-first.ensures.sound (c.take_places.ensures.goes_on.tells told1) [] c.in_ok-taken.taken.items
-    (taken-planned _ _ _ _ c.args.plan.now.items _ c.args.roots.now c.requires.kinds taken) ci
+    (taken-planned _ _ _ _ _ c.args.plan.now.items _ c.args.roots.now c.requires.kinds taken) ci
     (same_fault _ _ _ _ f.1 f.2 e))
 
 -- ---- the root anchor point
@@ -84,9 +84,9 @@ returns-clause-rebuilt g c = λ told r.
     let taken = c.in_ok-taken.ensures.taken told1 planned in
     let told2 = c.take_places.ensures.goes_on.tells told1 in
     let built = c.in_ok-first.ensures.built told2 [] c.in_ok-taken.taken.items
-    (taken-planned _ _ _ _ c.args.plan.now.items _ c.args.roots.now c.requires.kinds taken) in
+    (taken-planned _ _ _ _ _ c.args.plan.now.items _ c.args.roots.now c.requires.kinds taken) in
     let told3 = c.build_roots.ensures.goes_on.tells told2 in
-    let all = taken-built _ _ _ _ _ c.args.plan.now.items _ _ c.args.roots.now taken built.1 in
+    let all = taken-built _ _ _ _ _ _ c.args.plan.now.items _ _ c.args.roots.now taken built.1 in
     on_ok-map _ _ _ (λ put. rebuilds _ _ _ _ _ _ _ c.args.plan.now.items c.args.rest.now c.args.roots.now _ r given
     all put) (c.put_root.ensures.put told3 (place-stays _ _ _ _ _ _ all.exchange (place-stays _ _ _ _ _ _ given r.base)))
 
@@ -99,9 +99,9 @@ returns-clause-lists g c = λ told r ci e.
     let taken = c.in_ok-taken.ensures.taken told1 planned in
     let told2 = c.take_places.ensures.goes_on.tells told1 in
     let built = c.in_ok-first.ensures.built told2 [] c.in_ok-taken.taken.items
-    (taken-planned _ _ _ _ c.args.plan.now.items _ c.args.roots.now c.requires.kinds taken) in
+    (taken-planned _ _ _ _ _ c.args.plan.now.items _ c.args.roots.now c.requires.kinds taken) in
     let told3 = c.build_roots.ensures.goes_on.tells told2 in
-    let all = taken-built _ _ _ _ _ c.args.plan.now.items _ _ c.args.roots.now taken built.1 in
+    let all = taken-built _ _ _ _ _ _ c.args.plan.now.items _ _ c.args.roots.now taken built.1 in
     absurd (c.put_root.ensures.sound told3 (place-stays _ _ _ _ _ _ all.exchange
     (place-stays _ _ _ _ _ _ given r.base)) ci e)
 
@@ -114,7 +114,7 @@ returns-clause-sound g c = λ told o r ci e.
     let taken = c.in_ok-taken.ensures.taken told1 planned in
     let told2 = c.take_places.ensures.goes_on.tells told1 in
     let built = c.in_ok-first.ensures.built told2 [] c.in_ok-taken.taken.items
-    (taken-planned _ _ _ _ c.args.plan.now.items _ c.args.roots.now c.requires.kinds taken) in
+    (taken-planned _ _ _ _ _ c.args.plan.now.items _ c.args.roots.now c.requires.kinds taken) in
     let told3 = c.build_roots.ensures.goes_on.tells told2 in
-    let all = taken-built _ _ _ _ _ c.args.plan.now.items _ _ c.args.roots.now taken built.1 in
+    let all = taken-built _ _ _ _ _ _ c.args.plan.now.items _ _ c.args.roots.now taken built.1 in
     c.put_root.ensures.sound told3 (place-stays _ _ _ _ _ _ all.exchange (place-stays _ _ _ _ _ _ given r.base)) ci e

@@ -4,7 +4,7 @@ use Rattle.ci_overflow.specs.Lists.{IsInOrder}
 use Rattle.ci_overflow.proofs.Joins.{on_ok-map}
 use Rattle.root_anchor.proofs.Exits.{at_ok, same_fault}
 use Rattle.root_anchor.proofs.Sound.{chain_sound}
-use Rattle.root_anchor.proofs.Rebuilt.{apart-kept, has_chain, lists_fail, ready, stores}
+use Rattle.root_anchor.proofs.Rebuilt.{apart-kept, has_chain, lists_fail, own-kept, ready, stores}
 use Rattle.root_anchor.proofs.storing.store_held.Goals as goal
 
 pub returns-in_err-standing-clause-sound : goal.returns-in_err-standing-clause-sound
@@ -42,6 +42,16 @@ returns-clause-apart g c = λ told o.
     let is_ready = ready _ _ _ _ c.args.anchor _ _ _ _ _ same c.as_slice.ensures.value standing shares
     c.in_ok-plan.ensures.types in
     on_ok-map _ _ _ (λ r. apart-kept _ _ _ _ _ c.args.anchor _ _ _ _ _ same c.as_slice.ensures.value c.requires.anchor
+    o standing shares r) (c.rebuild.ensures.rebuilt (c.elements_of.ensures.goes_on.tells told) is_ready)
+
+pub returns-clause-own : goal.returns-clause-own
+returns-clause-own g c = λ told o.
+    let same = c.elements_of.ensures.same told in
+    let standing = c.in_ok-standing.ensures.standing told in
+    let shares = c.in_ok-plan.ensures.shares in
+    let is_ready = ready _ _ _ _ c.args.anchor _ _ _ _ _ same c.as_slice.ensures.value standing shares
+    c.in_ok-plan.ensures.types in
+    on_ok-map _ _ _ (λ r. own-kept _ _ _ _ _ c.args.anchor _ _ _ _ _ same c.as_slice.ensures.value c.requires.anchor
     o standing shares r) (c.rebuild.ensures.rebuilt (c.elements_of.ensures.goes_on.tells told) is_ready)
 
 pub returns-clause-sequential : goal.returns-clause-sequential

@@ -9,7 +9,7 @@ use Rattle.root_anchor.proofs.Steps.{finds-place, keeps-place}
 use Rattle.root_anchor.proofs.taking.take_place.Goals as goal
 
 pub returns-in-Some-clause-place : goal.returns-in-Some-clause-place
-returns-in-Some-clause-place g c = λ t s h. keeps-place _ _ _ _ _ _ c.in-Some.is h
+returns-in-Some-clause-place g c = λ t s h. keeps-place _ _ _ _ _ _ _ c.in-Some.is h
 
 pub returns-in-Some-clause-comes : goal.returns-in-Some-clause-comes
 returns-in-Some-clause-comes g c = λ t s elements. as_it_is _
@@ -22,7 +22,8 @@ overflow_cast-length g c =
 
 pub returns-in-Ok-clause-place : goal.returns-in-Ok-clause-place
 returns-in-Ok-clause-place g c = λ t s h. finds-place _ _ _ _ _ _ _ _ _ c.in_default.is
-    c.content_length-length.ensures.exact (c.in-Ok.ensures.takes t s) (c.in-Ok.ensures.lists t s) c.requires.anchor
+    c.content_length-length.ensures.exact (c.in-Ok.ensures.takes t s) (c.in-Ok.ensures.lists t s) (c.in-Ok.ensures.own t s)
+    c.requires.anchor
 
 pub returns-in-Ok-clause-comes : goal.returns-in-Ok-clause-comes
 returns-in-Ok-clause-comes g c = λ t s elements. room_taken _ _ _ _ c.in-Ok.at (as_it_is _) (c.in-Ok.ensures.takes t s)

@@ -20,9 +20,9 @@ loop-planned-init g c = record {
   seen = λ t. c.new-seen.ensures _ _ _;
   comes = λ t elements. as_it_is _;
   taking = λ t r. subst (λ xs. IsTaking c.args.home.now.shape.now c.args.home.now.segments.now
-      (g.I.Intervals.intervals c.args.i.now) (g.I.Intervals.intervals c.args.i.now) c.args.plan.now.items
-      c.args.plan.now.items xs) (sym c.new-taken.ensures.items)
-      (none-taken _ c.args.home.now.segments.now _ c.args.plan.now.items);
+      (g.I.Intervals.intervals c.args.i.now) (g.I.Intervals.intervals c.args.i.now) c.args.home.now.anchor
+      c.args.plan.now.items c.args.plan.now.items xs) (sym c.new-taken.ensures.items)
+      (none-taken _ c.args.home.now.segments.now _ _ c.args.plan.now.items);
 }
 
 pub take_place-requires-clause-types : goal.take_place-requires-clause-types
@@ -44,12 +44,12 @@ loop-planned-preserved g c = record {
   taking = λ t r.
       let t1 = c.loop-planned.invariant.goes_on.tells t in
       let x = c.loop-planned.invariant.taking t r in
-      let room = next-room _ _ _ _ _ _ _ _ c.in-Some.planned r x c.in-Some.ensures.items in
+      let room = next-room _ _ _ _ _ _ _ _ _ c.in-Some.planned r x c.in-Some.ensures.items in
       let place = c.in_ok-at.ensures.place t1 (c.loop-planned.invariant.seen t) room in
       subst (λ xs. IsTaking c.args.home.now.shape.now c.args.home.now.segments.now
-      (g.I.Intervals.intervals c.args.i.now) (g.I.Intervals.intervals c.take_place.new.i) c.args.plan.now.items
-      c.pop_back.new.self.items xs) (sym c.in-Ok.ensures.items)
-      (taken-on _ _ _ _ _ _ _ _ _ c.in-Some.planned c.in_ok-at.at r x c.in-Some.ensures.items place);
+      (g.I.Intervals.intervals c.args.i.now) (g.I.Intervals.intervals c.take_place.new.i) c.args.home.now.anchor
+      c.args.plan.now.items c.pop_back.new.self.items xs) (sym c.in-Ok.ensures.items)
+      (taken-on _ _ _ _ _ _ _ _ _ _ c.in-Some.planned c.in_ok-at.at r x c.in-Some.ensures.items place);
 }
 
 pub returns-in_err-at-clause-sound : goal.returns-in_err-at-clause-sound
@@ -67,5 +67,5 @@ returns-in_err-at-clause-lists g c = λ t elements ci e.
     (same_fault _ _ _ _ p.1 p.2 e)))
 
 pub returns-clause-taken : goal.returns-clause-taken
-returns-clause-taken g c = λ t r. all-taken _ _ _ _ _ _ _
+returns-clause-taken g c = λ t r. all-taken _ _ _ _ _ _ _ _
     (nil_from_length c.loop-planned.plan.items (sym c.loop-planned.plan.ok.0 ∙ c.in_default.ensures.cases.0)) (c.loop-planned.invariant.taking t r)

@@ -19,7 +19,7 @@ invariant-loop-planned g l = record {
       (g.I.Intervals.intervals l.initial.i) (g.I.Intervals.intervals l.i);
   taking : g.I.Intervals.told l.initial.i → AreReserved l.home.segments.now (g.I.Intervals.intervals l.initial.i) l.initial.plan.items
       → IsTaking l.home.shape.now l.home.segments.now (g.I.Intervals.intervals l.initial.i)
-      (g.I.Intervals.intervals l.i) l.initial.plan.items l.plan.items l.taken.items;
+      (g.I.Intervals.intervals l.i) l.home.anchor l.initial.plan.items l.plan.items l.taken.items;
 }
 
 abbrev pub decreases-loop-planned : goal.decreases-loop-planned
