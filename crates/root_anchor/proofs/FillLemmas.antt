@@ -22,10 +22,11 @@ use Rattle.root_anchor.specs.declared.gaps.Gap.{Gap}
 use Rattle.root_anchor.specs.declared.gaps.Link.{Link}
 use Rattle.root_anchor.specs.declared.gaps.Link.TheVariants.{Next, FirstChild}
 use Rattle.root_anchor.specs.declared.standing.Standing.{Standing}
-use Rattle.root_anchor.specs.Chains.{AreRows, no_row, row_end, segment, AreRoots, no_root, root, newest, root_of, anchor_count}
+use Rattle.root_anchor.specs.Chains.{AreRows, no_row, row_end, segment, AreRoots, no_root, root, newest, root_of, anchor_count, IsChain}
 use Rattle.root_anchor.specs.Differing.{ChangesAlone}
 use Rattle.root_anchor.specs.Formed.{HasRoots, IsFormed, NewAreOwn}
 use Rattle.root_anchor.specs.Gaps.{AddsOne, FewChange, SegmentsStay, StaysIn, linked, Refills, Fills, MeetsOneMore, IsGapInRoots, Adds, AddsBehind, AddsInFront, says_added, links_to}
+use Rattle.root_anchor.specs.Keeping.{KeepsElements}
 use Rattle.root_anchor.specs.Puts.{PutsRoot}
 use Rattle.root_anchor.specs.Rebuilding.{Exchanges, AreApart, RootsStand, Rebuilds, Shares, met_after}
 use Rattle.root_anchor.specs.Standing.{places_of, AreStanding}
@@ -524,6 +525,22 @@ alone_own shape types old new anchor before after it has =
         met = subst (λ (l : List Pointer). Contains l at) ((one_chain m.is_chain chain).1) m.met;
       });
     }
+
+-- the one element that changes alone holds a segment still, and so do the others
+pub alone_keeps : (shape : Shape) (types : List SegDef) (old new : List (List ℕ)) (anchor : ℕ) (before after : List Root)
+    → ChangesAlone shape types old new anchor before after → HasRoots shape types old anchor before
+    → KeepsElements shape types old new anchor after
+alone_keeps shape types old new anchor before after it has = record {
+  keep = λ had elements chain keys. (let P : List Pointer → Type 0 = λ es. IsChain shape types new anchor after es in
+      subst P ((one_chain has.is_chain chain).1) (alone_chain shape types old new anchor before after it has));
+}
+
+pub same_keeps : (shape : Shape) (types : List SegDef) (area : List (List ℕ)) (anchor : ℕ) (roots : List Root)
+    → HasRoots shape types area anchor roots → KeepsElements shape types area area anchor roots
+same_keeps shape types area anchor roots has = record {
+  keep = λ had elements chain keys. (let P : List Pointer → Type 0 = λ es. IsChain shape types area anchor roots es in
+      subst P ((one_chain has.is_chain chain).1) has.is_chain);
+}
 
 -- ---- few change where one does, or none
 

@@ -34,3 +34,5 @@ pub mod Directs
 pub mod Takings
 pub mod ComingLemmas
 pub mod OwnLemmas
+pub mod KeepLemmas
+pub mod KeyLemmas

@@ -1,6 +1,5 @@
 -- Intervals of an anchor's own unit of work, which stay so.
 use Rattle.std.proofs.Common.{◌≡◌, ◌≢◌, ◌⊎◌, inl, inr, ℕ, ◌+◌, ◌<◌, ◌≤◌, List, [], ◌∷◌, ◌++◌, length, Contains, refl, sym, ap, ◌∙◌, subst, arith}
-use Rattle.std.proofs.lemmas.List.Elements.{Contains-append_left, Contains-append_right, Contains-append_cases}
 use Rattle.ci_space.specs.declared.intervals.Shape.{Shape}
 use Rattle.ci_space.specs.declared.head.Head.{Head}
 use Rattle.ci_space.specs.Head.{head_of}
@@ -15,7 +14,6 @@ use Rattle.anchor_elements.specs.Elements.{Pointer, Segment}
 use Rattle.anchor_elements.specs.Puts.{PutsSegment}
 use Rattle.root_anchor.specs.Puts.{PutsRoot}
 use Rattle.root_anchor.specs.Rebuilding.{HadOrOwn, StandIn}
-use Rattle.root_anchor.proofs.Members.{none_in}
 use Rattle.root_anchor.proofs.PutLemmas.{put_keeps_head}
 
 same_owner : (old new : List ℕ) → (head_of new).owner ≡ (head_of old).owner → owner_of new ≡ owner_of old
@@ -85,15 +83,12 @@ room_keeps_own shape old new anchor n ci room u b t (an_independent o) =
 -- ---- elements in places
 
 pub stand-none : (area : List (List ℕ)) → StandIn area area [] []
-stand-none area = record { from = λ at c. c; heads = λ ci. refl; same_number = refl }
+stand-none area = record { are = refl; heads = λ ci. refl; same_number = refl }
 
 pub stand-both : (a b c : List (List ℕ)) (xs ys zs ws : List Pointer) → StandIn a b xs ys → StandIn b c zs ws
     → StandIn a c (zs ++ xs) (ws ++ ys)
 stand-both a b c xs ys zs ws p q = record {
-  from = λ at m. elim (Contains-append_cases ws ys at m) as (λ _. Contains (zs ++ xs) at) [
-    | inl k ↦ Contains-append_left zs xs at (q.from at k)
-    | inr k ↦ Contains-append_right zs xs at (p.from at k)
-  ];
+  are = ap (λ es. es ++ ys) q.are ∙ ap (λ es. zs ++ es) p.are;
   heads = λ ci. q.heads ci ∙ p.heads ci;
   same_number = q.same_number ∙ p.same_number;
 }
@@ -101,7 +96,7 @@ stand-both a b c xs ys zs ws p q = record {
 pub stand-one : (types : List SegDef) (old new : List (List ℕ)) (type : ℕ) (at : Pointer) (s : Segment)
     → PutsSegment types old new type at s → StandIn old new (at ∷ []) (at ∷ [])
 stand-one types old new type at s p = record {
-  from = λ q c. c;
+  are = refl;
   heads = put_keeps_head types old new type at s p;
   same_number = p.same_number;
 }
@@ -111,5 +106,6 @@ pub own-there : (shape : Shape) (mid new : List (List ℕ)) (anchor : ℕ) (had 
     → HadOrOwn shape mid anchor had places → StandIn mid new places elements
     → HadOrOwn shape new anchor had elements
 own-there shape mid new anchor had places elements o s at c =
-    elim (o at (s.from at c)) as (λ _. Contains had at ⊎ IsOwnRoom shape new anchor at.0)
+    let P : List Pointer → Type 0 = λ xs. Contains xs at in
+    elim (o at (subst P s.are c)) as (λ _. Contains had at ⊎ IsOwnRoom shape new anchor at.0)
     [ inl h ↦ inl h | inr r ↦ inr (heads-own shape mid new anchor at.0 (s.heads at.0) s.same_number r) ]

@@ -18,7 +18,7 @@ use Rattle.std.proofs.lemmas.List.{append-nil}
 use Rattle.root_anchor.specs.Standing.{places_of, AreStanding}
 use Rattle.root_anchor.specs.declared.plan.Planned.{Planned}
 use Rattle.root_anchor.specs.declared.standing.Standing.{Standing}
-use Rattle.root_anchor.specs.Rebuilding.{Exchanges, RootsStand, met_after, reserved, types_of, types_of_roots, AreReserved, BuildsPlan, AreGivable, IsRebuildable, Rebuilds, Shares}
+use Rattle.root_anchor.specs.Rebuilding.{Exchanges, RootsStand, met_after, reserved, types_of, types_of_roots, ArePlaced, AreReserved, BuildsPlan, AreGivable, IsRebuildable, Rebuilds, Shares}
 use Rattle.root_anchor.proofs.Planning.{rooms-stay, rooms-used}
 use Rattle.root_anchor.proofs.Sharing.{plan-reserved}
 use Rattle.std.proofs.lemmas.List.Elements.{Contains-append_left, Contains-append_right}
@@ -262,6 +262,30 @@ rebuilds shape types old mid mid2 new anchor plan rest roots first r e b p =
           b.stand;
       put = p;
     }
+
+-- where the plan has a place for each, the roots stand just there
+pub kept-chain : (shape : Shape) (types : List SegDef) (old mid mid2 new : List (List ℕ)) (anchor : ℕ)
+    (plan : List Planned) (rest : List Standing) (roots : List Root) (first : Pointer) → anchor < anchor_count shape
+    → IsInOrder shape old
+    → IsRebuildable shape types old anchor plan rest roots → Exchanges shape old mid (places_of rest) []
+    → BuildsPlan shape types mid mid2 anchor plan first roots → ArePlaced plan → PutsRoot shape mid2 new anchor first
+    → IsChain shape types new anchor roots (met_after (reserved plan) [])
+kept-chain shape types old mid mid2 new anchor plan rest roots first below o r e b placed p =
+    let x : Exchanges shape old mid2 (reserved plan ++ places_of rest) (b.elements ++ []) =
+    exchange-both shape old mid mid2 (places_of rest) [] (reserved plan) b.elements e b.exchange
+    (rooms-used types old plan r.rooms) (λ at c. apart-disjoint (reserved plan) (places_of rest) at r.once c)
+    in
+    let P : List Pointer → Type 0 = λ has. Exchanges shape old mid2 (reserved plan ++ places_of rest) has in
+    let it : IsRebuilt shape types old mid2 new anchor (reserved plan ++ places_of rest) b.elements first roots = record {
+      below = below;
+      in_order = o;
+      exchange = subst P (append-nil b.elements) x;
+      stand = b.stand;
+      put = p;
+    } in
+    let Q : List Pointer → Type 0 = λ es. IsChain shape types new anchor roots (met_after es []) in
+    subst Q (b.all_kept placed) (new-chain shape types old mid2 new anchor (reserved plan ++ places_of rest) b.elements
+    first roots it)
 
 -- ---- from what an anchor had to its new roots
 

@@ -9,12 +9,12 @@ use Rattle.ci_overflow.specs.Rooms.{IsOwnRoom}
 use Rattle.fp_model.specs.declared.definitions.SegDef.{SegDef}
 use Rattle.fp_model.specs.declared.database.Root.{Root}
 use Rattle.anchor_elements.specs.Elements.{Pointer}
-use Rattle.root_anchor.specs.Rebuilding.{AreReserved, BuildsPlan, BuildsRoots, Exchanges, HaveRoom, HaveRooms, IsDirect, IsPlanned, IsTaking, TakesPlace, TakesPlaces, and_place, reserved, types_of, types_of_roots}
+use Rattle.root_anchor.specs.Rebuilding.{ArePlaced, AreReserved, BuildsPlan, BuildsRoots, Exchanges, HaveRoom, HaveRooms, IsDirect, IsPlaced, IsPlanned, IsTaking, TakesPlace, TakesPlaces, and_place, reserved, types_of, types_of_roots}
 use Rattle.root_anchor.specs.declared.plan.Planned.{Planned}
 use Rattle.root_anchor.proofs.Exchanging.{exchange-again, exchange-both}
 use Rattle.root_anchor.proofs.Members.{front_in, behind_in, in_cases}
 use Rattle.root_anchor.proofs.OwnLemmas.{own-there}
-use Rattle.root_anchor.proofs.Planning.{exchange-none, reserved-append, reserved-disjoint, reserved-left, reserved-right, rooms-right, rooms-stay, rooms-used, still-reserved}
+use Rattle.root_anchor.proofs.Planning.{exchange-none, places-right, reserved-append, reserved-disjoint, reserved-left, reserved-right, rooms-right, rooms-stay, rooms-used, still-reserved}
 
 pub none-taken : (shape : Shape) (types : List SegDef) (area : List (List ℕ)) (anchor : ℕ) (plan : List Planned)
     → IsTaking shape types area area anchor plan plan []
@@ -108,6 +108,19 @@ all-taken shape types old now anchor plan left taken e t =
     let same : t.done ≡ plan = sym (t.parts ∙ ap (λ xs. xs ++ t.done) e) in
     subst (λ xs. TakesPlaces shape types old now anchor xs taken) same t.takes
 
+-- where each has a place, it stays as it was
+pub kept-on : (plan left before taken : List Planned) (p : Planned) (at : Pointer) → ArePlaced plan
+    → plan ≡ left ++ taken → left ≡ before ++ p ∷ [] → ((q : Pointer) → p.at ≡ Some q → at ≡ q)
+    → plan ≡ before ++ record { segment = p.segment; at = Some at } ∷ taken
+kept-on plan left before taken p at placed e l f =
+    let all : plan ≡ before ++ (p ∷ taken) = e ∙ ap (λ xs. xs ++ taken) l ∙ append_assoc before (p ∷ []) taken in
+    let P : List Planned → Type 0 = ArePlaced in
+    let one : IsPlaced p = (places-right before (p ∷ taken) (subst P all placed)).0 in
+    let o : Some at ≡ p.at = ap Some (f one.place one.is_place) ∙ sym one.is_place in
+    let same : (let q : Planned = record { segment = p.segment; at = Some at } in q) ≡ p =
+    ap (λ (x : Option Pointer). (let q : Planned = record { segment = p.segment; at = x } in q)) o in
+    all ∙ ap (λ (q : Planned). before ++ q ∷ taken) (sym same)
+
 -- ---- what is built in these places
 
 pub taken-planned : (shape : Shape) (types : List SegDef) (old new : List (List ℕ)) (anchor : ℕ)
@@ -123,10 +136,12 @@ taken-planned shape types old new anchor plan taken roots k t = record {
 
 pub taken-built : (shape : Shape) (types : List SegDef) (old mid new : List (List ℕ)) (anchor : ℕ)
     (plan taken : List Planned) (first : Pointer) (roots : List Root) → TakesPlaces shape types old mid anchor plan taken
-    → BuildsRoots shape types mid new taken first roots → BuildsPlan shape types old new anchor plan first roots
-taken-built shape types old mid new anchor plan taken first roots t b = record {
+    → (ArePlaced plan → taken ≡ plan) → BuildsRoots shape types mid new taken first roots
+    → BuildsPlan shape types old new anchor plan first roots
+taken-built shape types old mid new anchor plan taken first roots t k b = record {
   elements = b.elements;
   exchange = exchange-again shape old mid new (reserved plan) (reserved taken) b.elements t.exchange b.exchange;
   own = own-there shape mid new anchor (reserved plan) (reserved taken) b.elements t.own b.stand_in;
+  all_kept = λ placed. b.stand_in.are ∙ ap reserved (k placed);
   stand = b.stand;
 }

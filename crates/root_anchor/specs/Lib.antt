@@ -12,3 +12,4 @@ pub mod Rebuilding
 pub mod Walking
 pub mod Finding
 pub mod Gaps
+pub mod Keeping

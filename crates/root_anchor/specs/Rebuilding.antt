@@ -170,9 +170,9 @@ pub record IsTaking (shape : Shape) (types : List SegDef) (old now : List (List 
   pub parts : plan ≡ left ++ done
   pub takes : TakesPlaces shape types old now anchor done taken
 
--- elements stand in these places: every interval keeps its head, and none is added
+-- these places are the elements, one by one; every interval keeps its head, and none is added
 pub record StandIn (old new : List (List ℕ)) (places elements : List Pointer) : Type 0 where
-  pub from : (at : Pointer) → Contains elements at → Contains places at
+  pub are : elements ≡ places
   pub heads : (ci : ℕ) → head_of (bytes_at new ci) ≡ head_of (bytes_at old ci)
   pub same_number : length new ≡ length old
 
@@ -208,6 +208,7 @@ pub record BuildsPlan (shape : Shape) (types : List SegDef) (old new : List (Lis
   pub elements : List Pointer
   pub exchange : Exchanges shape old new (reserved plan) elements
   pub own : HadOrOwn shape new anchor (reserved plan) elements
+  pub all_kept : ArePlaced plan → elements ≡ reserved plan
   pub stand : RootsStand types new first roots elements
 
 -- ---- a plan

@@ -304,7 +304,7 @@ fn add_missing<I: Intervals>(
 
 /// Whether a list of roots has one segment more than another.
 fn gains(roots: &List<Root>, others: &List<Root>) -> bool
-    ensures { RootsGain roots.now others.now → IsTrue result }
+    ensures { IsTrue result ↔ RootsGain roots.now others.now }
 {
     !matches!(
         gain_of_roots(roots.as_slice(), others.as_slice()),
@@ -339,6 +339,7 @@ pub(crate) fn set_more<I: Intervals>(
     ensures more { I.told i.old
         → HasRoots home.now.shape.now home.now.segments.now (I.intervals i.old) home.now.anchor before.now
         → RootsGain before.now after.now → IfOk result (λ more. more ≡ true) }
+    ensures gains { IfOk result (λ more. more ≡ true → RootsGain before.now after.now) }
     ensures same { I.told i.old → IfOk result (λ more. more ≡ false → I.intervals i.new ≡ I.intervals i.old) }
     ensures lists { I.told i.old
         → HasChain home.now.shape.now home.now.segments.now (I.intervals i.old) home.now.anchor → (ci : ℕ)

@@ -17,6 +17,7 @@ ghost use Rattle.root_anchor.specs.Differing.{ChangesAlone};
 ghost use Rattle.root_anchor.specs.Finding.{FitsType, says_of};
 ghost use Rattle.root_anchor.specs.Formed.{IsFormed, HasChain, HasRoots, NewAreOwn};
 ghost use Rattle.root_anchor.specs.Gaps.{AddsOne, FewChange, SegmentsStay};
+ghost use Rattle.root_anchor.specs.Keeping.{KeepsElements};
 ghost use Rattle.root_anchor.specs.Stored.{are_storable, ApartKeep, OthersKeep, KeepsSequential};
 
 use crate::building::Home;
@@ -130,6 +131,11 @@ fn rewrite_held<I: Intervals>(
         → IsFormed shape.now segments.now (I.intervals i.old)
         → OnOk result (IsFormed shape.now segments.now (I.intervals i.new)) }
 
+    // And where no segment comes or goes, each stays in its element.
+    ensures keep { I.told i.old → HasRoots shape.now segments.now (I.intervals i.old) anchor before.now
+        → IsInOrder shape.now (I.intervals i.old) → ¬ RootsGain before.now after.now
+        → OnOk result (KeepsElements shape.now segments.now (I.intervals i.old) (I.intervals i.new) anchor after.now) }
+
     // And where the lists differ in one segment, just its element changes, and nothing is damaged.
     ensures alone { I.told i.old → HasRoots shape.now segments.now (I.intervals i.old) anchor before.now
         → RootsDiffer before.now after.now
@@ -237,6 +243,11 @@ pub fn rewrite<I: Intervals>(
     ensures formed { I.told i.old → HasRoots shape.now segments.now (I.intervals i.old) anchor before.now
         → IsFormed shape.now segments.now (I.intervals i.old)
         → OnOk result (IsFormed shape.now segments.now (I.intervals i.new)) }
+
+    // And where no segment comes or goes, each stays in its element.
+    ensures keep { I.told i.old → HasRoots shape.now segments.now (I.intervals i.old) anchor before.now
+        → IsInOrder shape.now (I.intervals i.old) → ¬ RootsGain before.now after.now
+        → OnOk result (KeepsElements shape.now segments.now (I.intervals i.old) (I.intervals i.new) anchor after.now) }
 
     // And where the lists differ in one segment, just its element changes, and nothing is damaged.
     ensures alone { I.told i.old → HasRoots shape.now segments.now (I.intervals i.old) anchor before.now

@@ -7,14 +7,15 @@
 ghost use Rattle.std.specs.Prelude.{◌≡◌, ◌≢◌, ◌<◌, ◌≤◌, [], ℕ, List, Err, OnOk, IsErrOf, true};
 ghost use Rattle.ci_space.specs.Calls.{Rose, GoesOn};
 ghost use Rattle.ci_overflow.specs.Lists.{IsInOrder};
-ghost use Rattle.root_anchor.specs.Chains.{anchor_count};
+ghost use Rattle.root_anchor.specs.Chains.{IsChain, anchor_count};
 ghost use Rattle.root_anchor.specs.Damage.{ChainFails};
 ghost use Rattle.root_anchor.specs.Faults.{ComesTo, FaultComes, ListsFail};
 ghost use Rattle.root_anchor.specs.Formed.{IsFormed, HasChain, HasRoots, NewAreOwn};
+ghost use Rattle.root_anchor.specs.Keeping.{KeepsElements};
 ghost use Rattle.anchor_elements.specs.Elements.{AreTypes};
 ghost use Rattle.root_anchor.specs.Stored.{are_storable, ApartKeep, OthersKeep, KeepsSequential};
 ghost use Rattle.root_anchor.specs.Standing.{places_of};
-ghost use Rattle.root_anchor.specs.Rebuilding.{Exchanges, AreGivable, IsRebuildable, Rebuilds, types_of, types_of_roots};
+ghost use Rattle.root_anchor.specs.Rebuilding.{ArePlaced, Exchanges, AreGivable, IsRebuildable, Rebuilds, met_after, reserved, types_of, types_of_roots};
 
 use crate::building::{Home, build_roots, fault_of};
 use crate::holding::{Begun, begin, rest, settle};
@@ -79,6 +80,11 @@ fn rebuild<I: Intervals>(
         home.now.anchor plan.old.items rest.now roots.now
         → OnOk result (Rebuilds home.now.shape.now home.now.segments.now (I.intervals i.old) (I.intervals i.new)
         home.now.anchor plan.old.items rest.now roots.now) }
+    ensures kept { I.told i.old → IsInOrder home.now.shape.now (I.intervals i.old)
+        → IsRebuildable home.now.shape.now home.now.segments.now (I.intervals i.old) home.now.anchor plan.old.items
+        rest.now roots.now → ArePlaced plan.old.items
+        → OnOk result (IsChain home.now.shape.now home.now.segments.now (I.intervals i.new) home.now.anchor roots.now
+        (met_after (reserved plan.old.items) [])) }
     ensures sound { I.told i.old → IsInOrder home.now.shape.now (I.intervals i.old)
         → IsRebuildable home.now.shape.now home.now.segments.now (I.intervals i.old) home.now.anchor plan.old.items
         rest.now roots.now → (ci : ℕ) → result ≢ Err (AnchorFault.Damaged ci) }
@@ -109,8 +115,8 @@ pub(crate) fn store_held<I: Intervals>(
     requires roots { are_storable segments.now roots.now ≡ true }
 
     // In a formed area this anchor has these roots, all others keep theirs, and the area is formed again. In any area
-    // in order each anchor keeps its roots that shares no element with this one, and new elements are in the anchor's
-    // own unit of work.
+    // in order each anchor keeps its roots that shares no element with this one, new elements are in the anchor's own
+    // unit of work, and where no segment comes or goes, each stays in its element.
     ensures stored { I.told i.old → IsFormed shape.now segments.now (I.intervals i.old)
         → OnOk result (HasRoots shape.now segments.now (I.intervals i.new) anchor roots.now) }
     ensures others { I.told i.old → IsFormed shape.now segments.now (I.intervals i.old)
@@ -119,6 +125,8 @@ pub(crate) fn store_held<I: Intervals>(
         → OnOk result (ApartKeep shape.now segments.now (I.intervals i.old) (I.intervals i.new) anchor) }
     ensures own { I.told i.old → IsInOrder shape.now (I.intervals i.old)
         → OnOk result (NewAreOwn shape.now segments.now (I.intervals i.old) (I.intervals i.new) anchor) }
+    ensures keep { I.told i.old → IsInOrder shape.now (I.intervals i.old)
+        → OnOk result (KeepsElements shape.now segments.now (I.intervals i.old) (I.intervals i.new) anchor roots.now) }
     ensures sequential { I.told i.old → IsFormed shape.now segments.now (I.intervals i.old)
         → OnOk result (KeepsSequential shape.now (I.intervals i.old) (I.intervals i.new)) }
     ensures formed { I.told i.old → IsFormed shape.now segments.now (I.intervals i.old)
@@ -176,8 +184,8 @@ pub fn store<I: Intervals>(
     requires roots { are_storable segments.now roots.now ≡ true }
 
     // In a formed area this anchor has these roots, all others keep theirs, and the area is formed again. In any area
-    // in order each anchor keeps its roots that shares no element with this one, and new elements are in the anchor's
-    // own unit of work.
+    // in order each anchor keeps its roots that shares no element with this one, new elements are in the anchor's own
+    // unit of work, and where no segment comes or goes, each stays in its element.
     ensures stored { I.told i.old → IsFormed shape.now segments.now (I.intervals i.old)
         → OnOk result (HasRoots shape.now segments.now (I.intervals i.new) anchor roots.now) }
     ensures others { I.told i.old → IsFormed shape.now segments.now (I.intervals i.old)
@@ -186,6 +194,8 @@ pub fn store<I: Intervals>(
         → OnOk result (ApartKeep shape.now segments.now (I.intervals i.old) (I.intervals i.new) anchor) }
     ensures own { I.told i.old → IsInOrder shape.now (I.intervals i.old)
         → OnOk result (NewAreOwn shape.now segments.now (I.intervals i.old) (I.intervals i.new) anchor) }
+    ensures keep { I.told i.old → IsInOrder shape.now (I.intervals i.old)
+        → OnOk result (KeepsElements shape.now segments.now (I.intervals i.old) (I.intervals i.new) anchor roots.now) }
     ensures sequential { I.told i.old → IsFormed shape.now segments.now (I.intervals i.old)
         → OnOk result (KeepsSequential shape.now (I.intervals i.old) (I.intervals i.new)) }
     ensures formed { I.told i.old → IsFormed shape.now segments.now (I.intervals i.old)

@@ -3,7 +3,7 @@
 //! New elements are taken one after the other, for the last segment first. So a walk for room goes on where one for an
 //! element of the same length stopped.
 
-ghost use Rattle.std.specs.Prelude.{◌≡◌, ◌≢◌, ◌<◌, ◌≤◌, ℕ, List, All, Err, IfOk, OnOk, IsErrOf};
+ghost use Rattle.std.specs.Prelude.{◌≡◌, ◌≢◌, ◌<◌, ◌≤◌, ℕ, List, All, Err, IfOk, OnOk, IsErrOf, Some};
 ghost use Rattle.ci_space.specs.Calls.{Rose, GoesOn};
 ghost use Rattle.ci_overflow.specs.Faults.{IsAtFault};
 ghost use Rattle.ci_overflow.specs.Known.{HasSeen};
@@ -12,7 +12,7 @@ ghost use Rattle.ci_overflow.specs.Places.{uow_of};
 ghost use Rattle.anchor_elements.specs.Elements.{AreTypes, Pointer};
 ghost use Rattle.root_anchor.specs.Chains.{anchor_count};
 ghost use Rattle.root_anchor.specs.Faults.{ComesTo, FaultComes};
-ghost use Rattle.root_anchor.specs.Rebuilding.{AreReserved, HaveRoom, IsDirect, TakesPlace, TakesPlaces, types_of};
+ghost use Rattle.root_anchor.specs.Rebuilding.{ArePlaced, AreReserved, HaveRoom, IsDirect, TakesPlace, TakesPlaces, types_of};
 
 use crate::building::{Home, fault_of};
 use crate::plan::Planned;
@@ -42,6 +42,7 @@ fn take_place<I: Intervals>(
         → HasSeen home.now.shape.now (I.intervals i.old) (uow_of home.now.shape.now home.now.anchor) seen.old
         → OnOk result (HasSeen home.now.shape.now (I.intervals i.new) (uow_of home.now.shape.now home.now.anchor)
         seen.new) }
+    ensures planned { (planned_at : Pointer) → planned.at ≡ Some planned_at → IfOk result (λ at. at ≡ planned_at) }
     ensures comes { I.told i.old
         → HasSeen home.now.shape.now (I.intervals i.old) (uow_of home.now.shape.now home.now.anchor) seen.old
         → (elements : List Pointer) → OnOk result (ComesTo home.now.shape.now home.now.anchor elements
@@ -76,6 +77,7 @@ pub(crate) fn take_places<I: Intervals>(
     ensures taken { I.told i.old → AreReserved home.now.segments.now (I.intervals i.old) plan.old.items
         → IfOk result (λ taken. TakesPlaces home.now.shape.now home.now.segments.now (I.intervals i.old)
         (I.intervals i.new) home.now.anchor plan.old.items taken.items) }
+    ensures kept { ArePlaced plan.old.items → IfOk result (λ taken. taken.items ≡ plan.old.items) }
     ensures sound { I.told i.old → IsInOrder home.now.shape.now (I.intervals i.old)
         → AreReserved home.now.segments.now (I.intervals i.old) plan.old.items
         → (ci : ℕ) → result ≢ Err (AnchorFault.Damaged ci) }

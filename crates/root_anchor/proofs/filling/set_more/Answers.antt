@@ -120,3 +120,7 @@ returns-clause-stood g c = λ told.
     any_ok c.add_missing.result (λ more. more ≡ true → HasChain c.args.home.now.shape.now c.args.home.now.segments.now
     (g.I.Intervals.intervals c.args.i.now) c.args.home.now.anchor)
     (λ more yes. record { roots = c.in_ok-roots.field-0.roots; elements = _; is_chain = w.is_chain })
+
+pub returns-clause-gains : goal.returns-clause-gains
+returns-clause-gains g c = any_ok c.add_missing.result (λ more. more ≡ true → RootsGain c.args.before.now c.args.after.now)
+    (λ more yes. c.gains.ensures.0 c.if-not-gains.false)

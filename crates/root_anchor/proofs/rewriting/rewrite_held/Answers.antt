@@ -8,11 +8,12 @@ use Rattle.root_anchor.specs.Damage.{ChainFails}
 use Rattle.root_anchor.specs.Faults.{ListsFail}
 use Rattle.root_anchor.specs.Formed.{IsFormed, HasChain, HasRoots, NewAreOwn}
 use Rattle.root_anchor.specs.Gaps.{AddsOne, FewChange, SegmentsStay}
+use Rattle.root_anchor.specs.Keeping.{KeepsElements}
 use Rattle.root_anchor.specs.Stored.{ApartKeep, OthersKeep, KeepsSequential}
 use Rattle.root_anchor.proofs.AloneLemmas.{alone_stored, alone_others, alone_apart, alone_formed, alone_sequential}
 use Rattle.root_anchor.proofs.ChangeLemmas.{roots_exclusive}
 use Rattle.root_anchor.proofs.ComingLemmas.{lists_now}
-use Rattle.root_anchor.proofs.FillLemmas.{alone_few, alone_own, refill_stores, refill_apart, refill_own}
+use Rattle.root_anchor.proofs.FillLemmas.{alone_few, alone_keeps, alone_own, refill_stores, refill_apart, refill_own}
 use Rattle.root_anchor.proofs.rewriting.rewrite_held.Goals as goal
 
 pub returns-in_err-alone-clause-sound : goal.returns-in_err-alone-clause-sound
@@ -50,6 +51,10 @@ returns-then-alone-clause-apart g c = λ told has order. alone_apart c.args.shap
 
 pub returns-then-alone-clause-own : goal.returns-then-alone-clause-own
 returns-then-alone-clause-own g c = λ told has order. alone_own c.args.shape.now c.args.segments.now _ _
+    c.args.anchor c.args.before.now c.args.after.now (c.in_ok-alone.ensures.set told c.if-alone.true) has
+
+pub returns-then-alone-clause-keep : goal.returns-then-alone-clause-keep
+returns-then-alone-clause-keep g c = λ told has order none. alone_keeps c.args.shape.now c.args.segments.now _ _
     c.args.anchor c.args.before.now c.args.after.now (c.in_ok-alone.ensures.set told c.if-alone.true) has
 
 pub returns-then-alone-clause-formed : goal.returns-then-alone-clause-formed
@@ -166,6 +171,9 @@ returns-then-more-clause-own g c = λ told has order.
     c.if-more.true in
     refill_own c.args.shape.now c.args.segments.now _ _ _ c.args.anchor c.args.after.now same c.requires.anchor order r
 
+pub returns-then-more-clause-keep : goal.returns-then-more-clause-keep
+returns-then-more-clause-keep g c = λ told has order none. absurd (none (c.in_ok-more.ensures.gains c.if-more.true))
+
 pub returns-then-more-clause-alone : goal.returns-then-more-clause-alone
 returns-then-more-clause-alone g c = λ told has differ.
     let yes = c.in_ok-alone.ensures.alone told has differ in
@@ -233,6 +241,15 @@ returns-clause-own g c = λ told has order.
     subst (λ a. OnOk c.store_held.result (NewAreOwn c.args.shape.now c.args.segments.now a
     (g.I.Intervals.intervals c.store_held.new.i) c.args.anchor)) same
     (c.store_held.ensures.own (c.set_more.ensures.goes_on.tells told1)
+    (subst (λ a. IsInOrder c.args.shape.now a) (sym same) order))
+
+pub returns-clause-keep : goal.returns-clause-keep
+returns-clause-keep g c = λ told has order none.
+    let told1 = c.set_alone.ensures.goes_on.tells told in
+    let same = c.in_ok-more.ensures.same told1 c.if-more.false ∙ c.in_ok-alone.ensures.same told c.if-alone.false in
+    subst (λ a. OnOk c.store_held.result (KeepsElements c.args.shape.now c.args.segments.now a
+    (g.I.Intervals.intervals c.store_held.new.i) c.args.anchor c.args.after.now)) same
+    (c.store_held.ensures.keep (c.set_more.ensures.goes_on.tells told1)
     (subst (λ a. IsInOrder c.args.shape.now a) (sym same) order))
 
 pub returns-clause-formed : goal.returns-clause-formed

@@ -5,7 +5,7 @@ use Rattle.root_anchor.specs.Rebuilding.{IsDirect}
 use Rattle.root_anchor.proofs.ComingLemmas.{fault-later}
 use Rattle.root_anchor.proofs.Directs.{roots-direct}
 use Rattle.root_anchor.proofs.Exits.{same_fault}
-use Rattle.root_anchor.proofs.Rebuilt.{givable, place-stays, plan-stays, rebuilds}
+use Rattle.root_anchor.proofs.Rebuilt.{givable, kept-chain, place-stays, plan-stays, rebuilds}
 use Rattle.root_anchor.proofs.Takings.{taken-built, taken-planned}
 use Rattle.root_anchor.proofs.TypeLemmas.{root-direct}
 use Rattle.root_anchor.proofs.storing.rebuild.Goals as goal
@@ -86,9 +86,27 @@ returns-clause-rebuilt g c = λ told r.
     let built = c.in_ok-first.ensures.built told2 [] c.in_ok-taken.taken.items
     (taken-planned _ _ _ _ _ c.args.plan.now.items _ c.args.roots.now c.requires.kinds taken) in
     let told3 = c.build_roots.ensures.goes_on.tells told2 in
-    let all = taken-built _ _ _ _ _ _ c.args.plan.now.items _ _ c.args.roots.now taken built.1 in
+    let all = taken-built _ _ _ _ _ _ c.args.plan.now.items _ _ c.args.roots.now taken
+    c.in_ok-taken.ensures.kept built.1 in
     on_ok-map _ _ _ (λ put. rebuilds _ _ _ _ _ _ _ c.args.plan.now.items c.args.rest.now c.args.roots.now _ r given
     all put) (c.put_root.ensures.put told3 (place-stays _ _ _ _ _ _ all.exchange (place-stays _ _ _ _ _ _ given r.base)))
+
+pub returns-clause-kept : goal.returns-clause-kept
+returns-clause-kept g c = λ told o r placed.
+    let given = c.in_ok-give_back_all.ensures.given told
+    (givable _ _ _ _ c.args.plan.now.items c.args.rest.now c.args.roots.now r) in
+    let planned = plan-stays _ _ _ _ _ c.args.plan.now.items c.args.rest.now c.args.roots.now r given in
+    let told1 = c.give_back_all.ensures.goes_on.tells told in
+    let taken = c.in_ok-taken.ensures.taken told1 planned in
+    let told2 = c.take_places.ensures.goes_on.tells told1 in
+    let built = c.in_ok-first.ensures.built told2 [] c.in_ok-taken.taken.items
+    (taken-planned _ _ _ _ _ c.args.plan.now.items _ c.args.roots.now c.requires.kinds taken) in
+    let told3 = c.build_roots.ensures.goes_on.tells told2 in
+    let all = taken-built _ _ _ _ _ _ c.args.plan.now.items _ _ c.args.roots.now taken
+    c.in_ok-taken.ensures.kept built.1 in
+    on_ok-map _ _ _ (λ put. kept-chain _ _ _ _ _ _ _ c.args.plan.now.items c.args.rest.now c.args.roots.now _
+    c.requires.anchor o r given all placed put) (c.put_root.ensures.put told3 (place-stays _ _ _ _ _ _ all.exchange
+    (place-stays _ _ _ _ _ _ given r.base)))
 
 pub returns-clause-lists : goal.returns-clause-lists
 returns-clause-lists g c = λ told r ci e.
@@ -101,7 +119,8 @@ returns-clause-lists g c = λ told r ci e.
     let built = c.in_ok-first.ensures.built told2 [] c.in_ok-taken.taken.items
     (taken-planned _ _ _ _ _ c.args.plan.now.items _ c.args.roots.now c.requires.kinds taken) in
     let told3 = c.build_roots.ensures.goes_on.tells told2 in
-    let all = taken-built _ _ _ _ _ _ c.args.plan.now.items _ _ c.args.roots.now taken built.1 in
+    let all = taken-built _ _ _ _ _ _ c.args.plan.now.items _ _ c.args.roots.now taken
+    c.in_ok-taken.ensures.kept built.1 in
     absurd (c.put_root.ensures.sound told3 (place-stays _ _ _ _ _ _ all.exchange
     (place-stays _ _ _ _ _ _ given r.base)) ci e)
 
@@ -116,5 +135,6 @@ returns-clause-sound g c = λ told o r ci e.
     let built = c.in_ok-first.ensures.built told2 [] c.in_ok-taken.taken.items
     (taken-planned _ _ _ _ _ c.args.plan.now.items _ c.args.roots.now c.requires.kinds taken) in
     let told3 = c.build_roots.ensures.goes_on.tells told2 in
-    let all = taken-built _ _ _ _ _ _ c.args.plan.now.items _ _ c.args.roots.now taken built.1 in
+    let all = taken-built _ _ _ _ _ _ c.args.plan.now.items _ _ c.args.roots.now taken
+    c.in_ok-taken.ensures.kept built.1 in
     c.put_root.ensures.sound told3 (place-stays _ _ _ _ _ _ all.exchange (place-stays _ _ _ _ _ _ given r.base)) ci e

@@ -36,3 +36,9 @@ returns-in-Err-clause-damaged g c = λ t s ci e.
     let fits = subst P (sym c.content_length-length.ensures.exact) (fits-empty _ _ _ c.requires.types c.requires.direct)
     in
     c.find_room_seen.ensures.damaged t s fits ci (c.in-Err.is ∙ ap Err was)
+
+pub returns-in-Some-clause-planned : goal.returns-in-Some-clause-planned
+returns-in-Some-clause-planned g c = λ at e. let is = c.in-Some.is in cc
+
+pub returns-in-Ok-clause-planned : goal.returns-in-Ok-clause-planned
+returns-in-Ok-clause-planned g c = λ at e. let is = c.in_default.is in absurd (cc)
