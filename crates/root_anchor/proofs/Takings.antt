@@ -9,12 +9,12 @@ use Rattle.ci_overflow.specs.Rooms.{IsOwnRoom}
 use Rattle.fp_model.specs.declared.definitions.SegDef.{SegDef}
 use Rattle.fp_model.specs.declared.database.Root.{Root}
 use Rattle.anchor_elements.specs.Elements.{Pointer}
-use Rattle.root_anchor.specs.Rebuilding.{ArePlaced, AreReserved, BuildsPlan, BuildsRoots, Exchanges, HaveRoom, HaveRooms, IsDirect, IsPlaced, IsPlanned, IsTaking, TakesPlace, TakesPlaces, and_place, reserved, types_of, types_of_roots}
+use Rattle.root_anchor.specs.Rebuilding.{ArePlaced, AreReserved, BuildsPlan, BuildsRoots, Exchanges, HaveRoom, IsDirect, IsPlaced, IsPlanned, IsTaking, TakesPlace, TakesPlaces, and_place, reserved, types_of, types_of_roots}
 use Rattle.root_anchor.specs.declared.plan.Planned.{Planned}
 use Rattle.root_anchor.proofs.Exchanging.{exchange-again, exchange-both}
 use Rattle.root_anchor.proofs.Members.{front_in, behind_in, in_cases}
 use Rattle.root_anchor.proofs.OwnLemmas.{own-there}
-use Rattle.root_anchor.proofs.Planning.{exchange-none, places-right, reserved-append, reserved-disjoint, reserved-left, reserved-right, rooms-right, rooms-stay, rooms-used, still-reserved}
+use Rattle.root_anchor.proofs.Planning.{exchange-none, places-right, reserved-append, reserved-disjoint, reserved-left, reserved-right, rooms-stay, rooms-used, still-reserved}
 
 pub none-taken : (shape : Shape) (types : List SegDef) (area : List (List ℕ)) (anchor : ℕ) (plan : List Planned)
     → IsTaking shape types area area anchor plan plan []

@@ -12,7 +12,7 @@ use Rattle.fp_model.specs.declared.database.Node.TheOpen.{Node-F}
 use Rattle.fp_model.specs.declared.database.Node.TheFolds.{fold-Node}
 use Rattle.fp_model.specs.declared.database.Root.{Root}
 use Rattle.fp_model.specs.Order.{child_types}
-use Rattle.anchor_elements.specs.Elements.{Pointer, Segment, HasSegment, content_length}
+use Rattle.anchor_elements.specs.Elements.{Pointer, HasSegment, content_length}
 use Rattle.root_anchor.specs.Chains.{AreRows, AreRoots}
 use Rattle.root_anchor.specs.Stored.{KeepsSequential}
 use Rattle.root_anchor.specs.Standing.{places_of}

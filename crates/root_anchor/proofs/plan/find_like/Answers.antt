@@ -1,4 +1,4 @@
-use Rattle.std.proofs.Common.{◌≡◌, ◌∙◌, ap, Some, arith}
+use Rattle.std.proofs.Common.{◌∙◌, ap, Some, arith}
 use Rattle.root_anchor.proofs.KeepLemmas.{further_on, here_only, same-tied}
 use Rattle.root_anchor.proofs.plan.find_like.Goals as goal
 

@@ -1,4 +1,4 @@
-use Rattle.std.proofs.Common.{◌≡◌, ◌∙◌, ◌-◌, ◌++◌, ℕ, suc, List, [], length, get_or, take, refl, sym, ap, subst, arith}
+use Rattle.std.proofs.Common.{◌≡◌, ◌∙◌, ◌-◌, ◌++◌, suc, List, [], length, get_or, take, refl, sym, ap, subst, arith}
 use Rattle.std.proofs.lemmas.List.{append-nil, take_all}
 use Rattle.fp_model.specs.declared.database.Root.{Root}
 use Rattle.root_anchor.specs.Keeping.{IsPlanning, kept, keys_of_roots}

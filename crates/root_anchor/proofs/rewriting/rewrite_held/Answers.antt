@@ -1,4 +1,4 @@
-use Rattle.std.proofs.Common.{OnOk, ◌⊎◌, inl, inr, ◌∙◌, sym, subst}
+use Rattle.std.proofs.Common.{OnOk, inl, inr, ◌∙◌, sym, subst}
 use Rattle.std.proofs.lemmas.Result.{err_from_is_err_and}
 use Rattle.ci_overflow.specs.Faults.{IsAtFault}
 use Rattle.ci_overflow.specs.Lists.{IsInOrder}

@@ -1,7 +1,5 @@
-use Rattle.std.proofs.Common.{◌≡◌, ◌∙◌, ℕ, List, Err, refl, ap, arith}
-use Rattle.ci_overflow.specs.Faults.{IsAtFault}
+use Rattle.std.proofs.Common.{◌≡◌, ◌∙◌, Err, refl, ap, arith}
 use Rattle.ci_overflow.specs.declared.SpaceFault.TheVariants.{Damaged as SpaceDamaged}
-use Rattle.ci_overflow.proofs.FaultLemmas.{in-order-sound}
 use Rattle.ci_overflow.proofs.Going.{goes_on_joined}
 use Rattle.anchor_elements.specs.declared.fault.AnchorFault.TheVariants.{Damaged}
 use Rattle.root_anchor.specs.Faults.{as_it_is, given_back}
