@@ -13,7 +13,7 @@ use std::test::Fail;
 
 /// Which segment of a family is missing: the key of a client, of a loan, of a payment and of an address.
 #[derive(Clone, Copy)]
-struct Missing {
+pub struct Missing {
     client: u8,
     loan: u8,
     payment: u8,
@@ -24,7 +24,7 @@ struct Missing {
 const NONE: u8 = 99;
 
 /// The whole family.
-const WHOLE: Missing = Missing {
+pub const WHOLE: Missing = Missing {
     client: NONE,
     loan: NONE,
     payment: NONE,
@@ -103,7 +103,7 @@ fn loans_of(rt: &HostRuntime, key: u8, payments: u8, missing: Missing) -> Result
 }
 
 /// A client. Only the second has segments below it: three loans and three addresses.
-fn client(rt: &HostRuntime, key: u8, payments: u8, missing: Missing) -> Result<Root, Fail>
+pub fn client(rt: &HostRuntime, key: u8, payments: u8, missing: Missing) -> Result<Root, Fail>
     ensures { (types : List SegDefOf) → AreFamilyTypes types → IfOk result (λ root. is_storable types root ≡ true) }
 {
     let bytes = text(rt, key, b'C', 12)?;
@@ -133,7 +133,7 @@ fn clients(rt: &HostRuntime, payments: u8, missing: Missing) -> Result<List<Root
 }
 
 /// Two units of work, each of two base and one dependent overflow interval, and so many sequential intervals.
-fn shape_of(seq_cis: u32) -> Shape
+pub fn shape_of(seq_cis: u32) -> Shape
     ensures { result.uows * result.base ≡ 4 }
 {
     Shape {
@@ -146,7 +146,7 @@ fn shape_of(seq_cis: u32) -> Shape
 }
 
 /// The area of such a shape as it is formatted.
-fn area_of(rt: &HostRuntime, seq_cis: u32) -> Result<CountedArea, Fail> {
+pub fn area_of(rt: &HostRuntime, seq_cis: u32) -> Result<CountedArea, Fail> {
     let mut area = CountedArea::new(rt.alloc());
     let mut control = Interval::empty(rt.alloc(), 512, 1)?;
     control.set_ends([1, 1, 0, 0]);

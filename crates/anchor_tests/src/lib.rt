@@ -7,6 +7,8 @@ mod counted;
 #[cfg(test)]
 mod families;
 #[cfg(test)]
+mod faults;
+#[cfg(test)]
 mod gains;
 #[cfg(test)]
 mod places;

@@ -1,19 +1,19 @@
 -- A new element, where it was looked for.
-use Rattle.std.proofs.Common.{◌≡◌, ◌≢◌, ℕ, zero, suc, ◌-◌, ◌*◌, ◌<◌, ◌≤◌, ◌⊎◌, inl, inr, List, [], ◌∷◌, length, drop, slice_index, Option, Some, None, IfNone, IsTrue, refl, sym, ap, ◌∙◌, subst, arith}
+use Rattle.std.proofs.Common.{◌≡◌, ◌≢◌, ℕ, zero, suc, ◌+◌, ◌-◌, ◌*◌, ◌<◌, ◌≤◌, ◌⊎◌, inl, inr, List, [], ◌∷◌, length, drop, slice_index, Option, Some, None, IfNone, IsTrue, refl, sym, ap, ◌∙◌, subst, arith}
 use Rattle.std.proofs.lemmas.List.{get_or_past}
 use Rattle.std.proofs.lemmas.Bool.{cases_lt}
 use Rattle.ci_space.specs.declared.intervals.Shape.{Shape}
 use Rattle.ci_space.specs.declared.head.Head.{Head}
 use Rattle.ci_space.specs.Element.{Free}
-use Rattle.ci_space.specs.Interval.{kind_of, HasUsed, OthersStay, is_size, empty_bytes}
+use Rattle.ci_space.specs.Interval.{kind_of, HasUsed, IsInterval, OthersStay, is_size, empty_bytes}
 use Rattle.ci_space.specs.Head.{head_of, ends_of}
 use Rattle.ci_space.proofs.Tilings.{size-bounds}
 use Rattle.ci_space.proofs.Standing.{used-stands}
 use Rattle.ci_space.proofs.Empties.{tiled-tiles}
 use Rattle.ci_overflow.specs.Places.{first_base, first_independent, uow_of}
-use Rattle.ci_overflow.specs.Lists.{bytes_at, link_of, first_free, IsChain, IsInOrder}
-use Rattle.ci_overflow.specs.Rooms.{places, IsNext, IsFirstPlace, KeepsUsed, OnlyOneChanges, IsPut, TakesAt, IsTaken, AreTried, ChangesLink, ChangesEnds, KeepsEnds, KeepsButLink, KeepsRoots, Joins, JoinsFree, JoinsNew, JoinsNext, TakesRoom, FindsRoom}
-use Rattle.ci_overflow.proofs.Joins.{base-before, keeps-head, root-zero}
+use Rattle.ci_overflow.specs.Lists.{bytes_at, link_of, counted, first_free, IsChain, IsInOrder}
+use Rattle.ci_overflow.specs.Rooms.{places, IsNext, IsFirstPlace, KeepsUsed, OnlyOneChanges, IsPut, TakesAt, IsTaken, AreTried, ChangesLink, ChangesEnds, KeepsEnds, KeepsButLink, KeepsKinds, KeepsRoots, Joins, JoinsFree, JoinsNew, JoinsNext, TakesRoom, FindsRoom}
+use Rattle.ci_overflow.proofs.Joins.{base-before, keeps-head, root-zero, counted-put, first_free-put, link-known, kind-known}
 use Rattle.ci_overflow.proofs.Tries.{option_some, option_none}
 
 pub same_or : (a b : ℕ) → (a ≡ b) ⊎ (a ≢ b)
@@ -67,6 +67,18 @@ root_at old new ci other e h =
 pub root-known : (bytes : List ℕ) (head : Head) → head_of bytes ≡ head → (head_of bytes).root ≡ head.root
 root-known bytes head e = ap (λ (h : Head). h.root) e
 
+-- an interval that stays one, of its kind
+abbrev pub KindStays : List ℕ → List ℕ → Type 0
+KindStays old new = IsInterval old → IsInterval new × (kind_of new ≡ kind_of old)
+
+pub kind-same : (old new : List ℕ) → new ≡ old → KindStays old new
+kind-same old new e i = (rw (← e) at i, ap kind_of e)
+
+pub kind_where : (old new : List (List ℕ)) (ci other : ℕ) → other ≡ ci
+    → KindStays (bytes_at old ci) (bytes_at new ci) → KindStays (bytes_at old other) (bytes_at new other)
+kind_where old new ci other e h =
+    let P : ℕ → Type 0 = λ d. KindStays (bytes_at old d) (bytes_at new d) in subst P (sym e) h
+
 pub control-first : (shape : Shape) (area : List (List ℕ)) → IsInOrder shape area → kind_of (bytes_at area 0) ≡ 1
 control-first shape area o = (o.in_place 0 (omega (arith, o.whole))).is_kind
 
@@ -92,6 +104,12 @@ taken-standing shape old new anchor n room z a = record {
         | inr h ↦ root-same (bytes_at old other) (bytes_at new other) (ap head_of (a.others other h))
       ];
   longer = omega (arith, a.same_number);
+  kinds = λ other. elim (same_or other room.0) as (λ _. KindStays (bytes_at old other) (bytes_at new other)) [
+    | inl e ↦ kind_where old new room.0 other e
+        (λ _. (a.takes.is_interval, a.head 0 (omega arith) (omega arith)))
+    | inr h ↦ kind-same (bytes_at old other) (bytes_at new other) (a.others other h)
+  ];
+  source = inl (record { below = a.below; head = a.head; others = a.others; same_number = a.same_number });
 }
 
 pub takes-standing : (shape : Shape) (old new : List (List ℕ)) (anchor n : ℕ) (o : Option (ℕ × ℕ)) (room : ℕ × ℕ)
@@ -149,21 +167,33 @@ none_empty size at segment content s u =
     ]
 
 -- an interval joins the list: what changes
-pub record Changes (shape : Shape) (uow : ℕ) (old new : List (List ℕ)) (ci at : ℕ) : Type 0 where
+pub record Changes (shape : Shape) (uow : ℕ) (old new : List (List ℕ)) (ci at number first : ℕ) : Type 0 where
   pub others : OnlyOneChanges old new ci at
   pub named : (other : ℕ) → other ≢ 0 → other ≢ first_base shape uow → other ≢ ci
       → bytes_at new other ≡ bytes_at old other
   pub ends : KeepsEnds (bytes_at old 0) (bytes_at new 0)
   pub base : KeepsButLink (bytes_at old (first_base shape uow)) (bytes_at new (first_base shape uow))
   pub roots : KeepsRoots old new
+  pub kinds : KeepsKinds old new
+  pub head : head_of (bytes_at new ci) ≡ (record {
+    kind = 5;
+    root = (0, 0);
+    link =
+        link_of (bytes_at old (first_base shape uow));
+    owner = uow + 1;
+  })
+  pub leads : link_of (bytes_at new (first_base shape uow)) ≡ ci
+  pub is_first_free : first_free new ≡ first
+  pub is_counted : counted new ≡ number
 
 pub changes : (shape : Shape) (uow ci n at number first : ℕ) (old g m new : List (List ℕ)) (control bytes : List ℕ)
     → uow < shape.uows → 0 < shape.base → first_independent shape ≤ ci
     → ((other : ℕ) → other ≢ ci → bytes_at g other ≡ bytes_at old other)
     → ChangesEnds (bytes_at old 0) control number first → IsPut g m 0 control → Joins shape uow m new ci bytes n at
     → OthersStay (bytes_at old ci) (bytes_at new ci) at → (head_of (bytes_at old ci)).root ≡ (0, 0)
-    → Changes shape uow old new ci at
-changes shape uow ci n at number first old g m new control bytes u b l s e p j h r =
+    → (IsInterval (bytes_at old ci) → kind_of (bytes_at old ci) ≡ 5)
+    → Changes shape uow old new ci at number first
+changes shape uow ci n at number first old g m new control bytes u b l s e p j h r five =
     let behind : first_base shape uow < first_independent shape = base-before shape uow u b in
     let zf : 0 ≢ first_base shape uow = λ x. omega (arith, x) in
     let zc : 0 ≢ ci = λ x. omega (arith, x, l, behind) in
@@ -215,6 +245,24 @@ changes shape uow ci n at number first old g m new control bytes u b l s e p j h
                       ]
                 ]
           ];
+      kinds = λ other. elim (same_or other 0) as (λ _. KindStays (bytes_at old other) (bytes_at new other)) [
+        | inl y ↦ kind_where old new 0 other y
+            (λ _. (rw (← ez) at e.is_interval, ap kind_of ez ∙ e.head 0 (omega arith) (omega arith)))
+        | inr y ↦ elim (same_or other (first_base shape uow)) as
+            (λ _. KindStays (bytes_at old other) (bytes_at new other)) [
+              | inl z ↦ kind_where old new (first_base shape uow) other z
+                  (λ _. (k.is_interval, kind-known (bytes_at new (first_base shape uow)) _ k.head))
+              | inr z ↦ elim (same_or other ci) as (λ _. KindStays (bytes_at old other) (bytes_at new other)) [
+                | inl x ↦ kind_where old new ci other x
+                    (λ i. (j.takes.is_interval, kind-known (bytes_at new ci) _ j.head ∙ sym (five i)))
+                | inr x ↦ kind-same (bytes_at old other) (bytes_at new other) (named other y z x)
+              ]
+            ]
+      ];
+      head = rw mf at j.head;
+      leads = link-known (bytes_at new (first_base shape uow)) _ k.head;
+      is_first_free = first_free-put new control (bytes_at old 0) number first ez e;
+      is_counted = counted-put new control (bytes_at old 0) number first ez e;
     }
 
 taken_free : (shape : Shape) (old new : List (List ℕ)) (anchor n : ℕ) (room : ℕ × ℕ) → uow_of shape anchor < shape.uows
@@ -222,9 +270,12 @@ taken_free : (shape : Shape) (old new : List (List ℕ)) (anchor n : ℕ) (room 
 taken_free shape old new anchor n room u b j =
     let r : (head_of (bytes_at old room.0)).root ≡ (0, 0) =
     root-zero (bytes_at old room.0) j.is_empty.head (λ e. omega (arith, j.is_kind, e)) in
-    let w : Changes shape (uow_of shape anchor) old new room.0 room.1 =
+    let w : Changes shape (uow_of shape anchor) old new room.0 room.1 (counted old) (link_of (bytes_at old room.0)) =
     changes shape (uow_of shape anchor) room.0 n room.1 _ _ old old j.middle new j.control _ u b j.from
-    (λ other x. refl) j.ends j.put j.joins j.joins.takes.others r in
+    (λ other x. refl) j.ends j.put j.joins j.joins.takes.others r (λ _. j.is_kind) in
+    let behind : first_base shape (uow_of shape anchor) < first_independent shape =
+    base-before shape (uow_of shape anchor) u b in
+    let some : first_free old ≢ 0 = λ e. omega (arith, j.is_first, j.from, behind, e) in
     record {
       has_room = j.joins.takes.room;
       fresh = j.joins.takes.fresh;
@@ -234,11 +285,26 @@ taken_free shape old new anchor n room u b j =
       base = λ _. w.base;
       roots = w.roots;
       longer = omega (arith, j.joins.same_number, j.put.same_number);
+      kinds = w.kinds;
+      source = inr (record {
+        is_next = inl ((λ e. some (sym j.is_first ∙ e)), j.is_first);
+        head = w.head;
+        leads = w.leads;
+        from_free = λ _. (w.is_first_free, w.is_counted, j.joins.same_number ∙ j.put.same_number);
+        from_end = λ z. absurd (some z);
+      });
     }
 
+no_interval_past : (bytes : List ℕ) → bytes ≡ [] → IsInterval bytes → ⊥
+no_interval_past bytes e i =
+    let b : (512 ≤ length bytes) × (length bytes ≤ 4096) = size-bounds (length bytes) i.tiles.size in
+    let z : length bytes ≡ 0 = ap length e in
+    omega (arith, b.0, z)
+
 taken_new : (shape : Shape) (old new : List (List ℕ)) (anchor n : ℕ) (room : ℕ × ℕ) → uow_of shape anchor < shape.uows
-    → 0 < shape.base → JoinsNew shape (uow_of shape anchor) old new n room → TakesRoom shape old new anchor n room
-taken_new shape old new anchor n room u b j =
+    → 0 < shape.base → first_free old ≡ 0 → JoinsNew shape (uow_of shape anchor) old new n room
+    → TakesRoom shape old new anchor n room
+taken_new shape old new anchor n room u b none j =
     let past : bytes_at old room.0 ≡ [] = get_or_past old room.0 [] (omega (arith, j.is_last)) in
     let h : OthersStay (bytes_at old room.0) (bytes_at new room.0) room.1 = record {
       stay = λ place segment content _ x. absurd (none_past (bytes_at old room.0) place segment content past x);
@@ -248,9 +314,10 @@ taken_new shape old new anchor n room u b j =
     } in
     let s : (other : ℕ) → other ≢ room.0 → bytes_at j.grown other ≡ bytes_at old other =
     λ other x. j.grows.others other (λ e. x (e ∙ sym j.is_last)) in
-    let w : Changes shape (uow_of shape anchor) old new room.0 room.1 =
+    let w : Changes shape (uow_of shape anchor) old new room.0 room.1 (counted old + 1) (first_free old) =
     changes shape (uow_of shape anchor) room.0 n room.1 _ _ old j.grown j.middle new j.control _ u b j.from s j.ends
-    j.put j.joins h (ap (λ (xs : List ℕ). (head_of xs).root) past) in
+    j.put j.joins h (ap (λ (xs : List ℕ). (head_of xs).root) past)
+    (λ i. absurd (no_interval_past (bytes_at old room.0) past i)) in
     record {
       has_room = j.joins.takes.room;
       fresh = λ x. none_past (bytes_at old room.0) room.1 x.segment x.content past x.used;
@@ -260,6 +327,18 @@ taken_new shape old new anchor n room u b j =
       base = λ _. w.base;
       roots = w.roots;
       longer = omega (arith, j.joins.same_number, j.put.same_number, j.grows.one_more);
+      kinds = w.kinds;
+      source = inr (record {
+        is_next = inr (none, j.is_last);
+        head = w.head;
+        leads = w.leads;
+        from_free = λ some. absurd (some none);
+        from_end = λ z. (
+          w.is_first_free ∙ z,
+          w.is_counted,
+          j.joins.same_number ∙ j.put.same_number ∙ j.grows.one_more,
+        );
+      });
     }
 
 pub taken-next : (shape : Shape) (old new : List (List ℕ)) (anchor n : ℕ) (room : ℕ × ℕ)
@@ -267,7 +346,7 @@ pub taken-next : (shape : Shape) (old new : List (List ℕ)) (anchor n : ℕ) (r
     → TakesRoom shape old new anchor n room
 taken-next shape old new anchor n room u b j = elim (same_or (first_free old) 0) as
     (λ _. TakesRoom shape old new anchor n room) [
-      | inl z ↦ taken_new shape old new anchor n room u b (j.from_end z)
+      | inl z ↦ taken_new shape old new anchor n room u b z (j.from_end z)
       | inr z ↦ taken_free shape old new anchor n room u b (j.from_free z)
     ]
 

@@ -1,10 +1,10 @@
 -- An element is given back: what changes, and that the lists stay in order.
-use Rattle.std.proofs.Common.{◌≡◌, ◌≢◌, ℕ, ◌-◌, ◌<◌, ◌≤◌, inl, inr, false, true, ◌+◌, List, [], ◌∷◌, length, slice_index, IsTrue, refl, sym, ap, ◌∙◌, subst, arith}
+use Rattle.std.proofs.Common.{◌≡◌, ◌≢◌, ℕ, ◌-◌, ◌<◌, ◌≤◌, ◌⊎◌, inl, inr, false, true, ◌+◌, List, [], ◌∷◌, length, slice_index, IsTrue, refl, sym, ap, ◌∙◌, subst, arith}
 use Rattle.std.proofs.lemmas.Bool.{cases_lt}
 use Rattle.ci_space.specs.declared.intervals.Shape.{Shape}
 use Rattle.ci_space.specs.Element.{Free}
 use Rattle.ci_space.specs.Interval.{kind_of, has_elements, HasUsed, IsUsed, IsInterval, IsEmpty, UsedIsFreed, OthersStay, Keeps}
-use Rattle.ci_space.specs.Head.{head_of}
+use Rattle.ci_space.specs.Head.{head_of, ends_of}
 use Rattle.ci_space.proofs.Tilings.{used-kind}
 use Rattle.ci_space.proofs.Standing.{used-stands}
 use Rattle.ci_overflow.specs.Places.{first_base, first_independent, kind_at}
@@ -12,9 +12,10 @@ use Rattle.ci_overflow.specs.Lists.{bytes_at, link_of, counted, IsInOrder}
 use Rattle.ci_overflow.specs.Rooms.{KeepsUsed, IsInUse, IsPut, KeepsButLink}
 use Rattle.ci_overflow.specs.Freed.{BecomesEmpty, TakesBack, GivesBack}
 use Rattle.ci_overflow.specs.Moves.{Moves}
-use Rattle.ci_overflow.proofs.Joins.{keeps-head, root-zero, kind-behind}
-use Rattle.ci_overflow.proofs.Finds.{same_or, used-same, ends-same, but-link-same, head_link, root-same, root_at, root-known, control-first}
-use Rattle.ci_overflow.proofs.Orders.{order-changed, first_free-put, link-known, owner-known}
+use Rattle.ci_overflow.proofs.Joins.{keeps-head, root-zero, kind-behind, counted-put, first_free-put, link-known, owner-known, kind-known}
+use Rattle.ci_overflow.proofs.Finds.{same_or, used-same, ends-same, but-link-same, head_link, root-same, root_at, root-known, control-first, KindStays, kind-same, kind_where}
+use Rattle.ci_overflow.proofs.Tries.{keeps-link}
+use Rattle.ci_overflow.proofs.Orders.{order-changed}
 use Rattle.ci_overflow.proofs.FaultLemmas.{kind-base, kind-before}
 
 -- an element of an interval is freed
@@ -99,6 +100,10 @@ given-back shape old new ci at o b t = record {
   same_number = t.same_number;
 }
 
+counted_same : (old new : List (List ℕ)) → bytes_at new 0 ≡ bytes_at old 0 → counted new ≡ counted old
+unfolding counted
+counted_same old new e = ap (λ (xs : List ℕ). slice_index (ends_of xs) 2) e
+
 -- an interval that stays where it is
 module _ (shape : Shape) (old m new : List (List ℕ)) (ci at : ℕ) (interval : List ℕ) (e : m ≡ old)
     (f : FreesAt (bytes_at old ci) interval at) (p : IsPut m new ci interval) where
@@ -140,6 +145,13 @@ module _ (shape : Shape) (old m new : List (List ℕ)) (ci at : ℕ) (interval :
         ];
     sequential = λ other h k. put_others other h;
     same_number = p.same_number ∙ ap length e;
+    kinds = λ other. elim (same_or other ci) as (λ _. KindStays (bytes_at old other) (bytes_at new other)) [
+      | inl x ↦ kind_where old new ci other x
+          (λ _. (put_frees.is_interval, put_frees.head 0 (omega arith) (omega arith)))
+      | inr x ↦ kind-same (bytes_at old other) (bytes_at new other) (put_others other x)
+    ];
+    relinked = λ other _ h. inl (put_others other h);
+    same_count = λ z. counted_same old new (put_others 0 (λ x. z (sym x)));
   }
 
 -- an interval that moves to the free chain
@@ -220,4 +232,26 @@ module _ (shape : Shape) (old new : List (List ℕ)) (ci at : ℕ) (interval : L
         ];
     sequential = λ other h k. v.others other (λ z. omega (arith, sym k ∙ ap (kind_at shape) z)) (moved_apart other k) h;
     same_number = v.same_number;
+    kinds = λ other. elim (same_or other 0) as (λ _. KindStays (bytes_at old other) (bytes_at new other)) [
+      | inl y ↦ kind_where old new 0 other y
+          (λ _. (v.ends.is_interval, v.ends.head 0 (omega arith) (omega arith)))
+      | inr y ↦ elim (same_or other v.before) as (λ _. KindStays (bytes_at old other) (bytes_at new other)) [
+        | inl z ↦ kind_where old new v.before other z
+            (λ _. (v.link.is_interval, kind-known (bytes_at new v.before) _ v.link.head))
+        | inr z ↦ elim (same_or other ci) as (λ _. KindStays (bytes_at old other) (bytes_at new other)) [
+          | inl x ↦ kind_where old new ci other x (λ _. (
+            record { elements = _; tiles = v.is_empty },
+            kind-known (bytes_at new ci) _ v.head ∙ sym five,
+          ))
+          | inr x ↦ kind-same (bytes_at old other) (bytes_at new other) (v.others other y z x)
+        ]
+      ]
+    ];
+    relinked = λ other y x. elim (same_or other v.before) as (λ _. (bytes_at new other ≡ bytes_at old other)
+        ⊎ (link_of (bytes_at new other) ≡ link_of (bytes_at old ci))) [
+          | inl z ↦ inr (ap (λ k. link_of (bytes_at new k)) z ∙ link-known (bytes_at new v.before) _ v.link.head
+              ∙ keeps-link (bytes_at old ci) interval f.head)
+          | inr z ↦ inl (v.others other y z x)
+        ];
+    same_count = λ _. counted-put new (bytes_at new 0) (bytes_at old 0) (counted old) ci refl v.ends;
   }

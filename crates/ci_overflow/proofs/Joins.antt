@@ -283,3 +283,28 @@ next-new shape uow n room old m new control ends ce ee z me j =
       from_free = λ e. absurd (e (sym (first_free_is old control ends ce ee) ∙ z));
       from_end = λ _. k;
     }
+
+-- what control counts once it is put, and the first of the free chain
+pub counted-put : (new : List (List ℕ)) (control old : List ℕ) (number first : ℕ) → bytes_at new 0 ≡ control
+    → ChangesEnds old control number first → counted new ≡ number
+unfolding counted
+counted-put new control old number first e c = ap (λ (xs : List ℕ). slice_index (ends_of xs) 2) e ∙ ap
+    (λ (xs : List ℕ). slice_index xs 2) c.ends
+
+pub first_free-put : (new : List (List ℕ)) (control old : List ℕ) (number first : ℕ) → bytes_at new 0 ≡ control
+    → ChangesEnds old control number first → first_free new ≡ first
+unfolding first_free
+first_free-put new control old number first e c = ap (λ (xs : List ℕ). slice_index (ends_of xs) 3) e ∙ ap
+    (λ (xs : List ℕ). slice_index xs 3) c.ends
+
+-- a head that is known
+pub link-known : (bytes : List ℕ) (head : Head) → head_of bytes ≡ head → link_of bytes ≡ head.link
+unfolding link_of
+link-known bytes head e = ap (λ (h : Head). h.link) e
+
+pub owner-known : (bytes : List ℕ) (head : Head) → head_of bytes ≡ head → owner_of bytes ≡ head.owner
+unfolding owner_of
+owner-known bytes head e = ap (λ (h : Head). h.owner) e
+
+pub kind-known : (bytes : List ℕ) (head : Head) → head_of bytes ≡ head → kind_of bytes ≡ head.kind
+kind-known bytes head e = ap (λ (h : Head). h.kind) e

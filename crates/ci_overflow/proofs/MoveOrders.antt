@@ -8,9 +8,9 @@ use Rattle.ci_overflow.specs.Lists.{bytes_at, link_of, owner_of, counted, first_
 use Rattle.ci_overflow.specs.Rooms.{ChangesLink}
 use Rattle.ci_overflow.specs.Moves.{Moves}
 use Rattle.ci_overflow.proofs.Tries.{keeps-link, keeps-owner}
-use Rattle.ci_overflow.proofs.Joins.{base-before, kind-behind}
+use Rattle.ci_overflow.proofs.Joins.{base-before, kind-behind, counted-put, first_free-put, link-known, owner-known, kind-known}
 use Rattle.ci_overflow.proofs.Finds.{same_or}
-use Rattle.ci_overflow.proofs.Orders.{chain-keeps, list-stays, list-joined, list-left, counted-put, first_free-put, link-known, owner-known, kind-known, bases-apart}
+use Rattle.ci_overflow.proofs.Orders.{chain-keeps, list-stays, list-joined, list-left, bases-apart}
 use Rattle.ci_overflow.proofs.FaultLemmas.{next-held, keeps-kind}
 
 -- a list without the interval that one of its intervals leads to

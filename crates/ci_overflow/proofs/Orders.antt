@@ -3,14 +3,13 @@ use Rattle.std.proofs.Common.{◌≡◌, ◌≢◌, ℕ, ◌+◌, ◌*◌, ◌<�
 use Rattle.std.proofs.lemmas.Bool.{cases_lt}
 use Rattle.std.proofs.lemmas.Nat.{mul-le}
 use Rattle.ci_space.specs.declared.intervals.Shape.{Shape}
-use Rattle.ci_space.specs.declared.head.Head.{Head}
 use Rattle.ci_space.specs.Interval.{kind_of, IsInterval, IsEmpty, Keeps}
-use Rattle.ci_space.specs.Head.{head_of, ends_of}
+use Rattle.ci_space.specs.Head.{ends_of}
 use Rattle.ci_overflow.specs.Places.{first_base, first_independent, uow_of}
 use Rattle.ci_overflow.specs.Lists.{bytes_at, link_of, owner_of, counted, first_free, IsChain, Holds, IsOwned, IsListOf, HasList, IsInPlace, IsInOrder}
-use Rattle.ci_overflow.specs.Rooms.{places, AreTried, IsInUse, TakesAt, ChangesLink, ChangesEnds, JoinsFree, JoinsNew, JoinsNext}
+use Rattle.ci_overflow.specs.Rooms.{places, AreTried, IsInUse, TakesAt, ChangesLink, JoinsFree, JoinsNew, JoinsNext}
 use Rattle.ci_overflow.proofs.Tries.{keeps-link, keeps-owner}
-use Rattle.ci_overflow.proofs.Joins.{base-before, kind-behind}
+use Rattle.ci_overflow.proofs.Joins.{base-before, kind-behind, counted-put, first_free-put, link-known, owner-known, kind-known}
 use Rattle.ci_overflow.proofs.Finds.{same_or, control-first, some_given}
 
 -- a chain depends on the links of its intervals alone
@@ -94,30 +93,6 @@ counted-same old new e = ap (λ (xs : List ℕ). slice_index (ends_of xs) 2) e
 first_free-same : (old new : List (List ℕ)) → bytes_at new 0 ≡ bytes_at old 0 → first_free new ≡ first_free old
 unfolding first_free
 first_free-same old new e = ap (λ (xs : List ℕ). slice_index (ends_of xs) 3) e
-
-pub counted-put : (new : List (List ℕ)) (control old : List ℕ) (number first : ℕ) → bytes_at new 0 ≡ control
-    → ChangesEnds old control number first → counted new ≡ number
-unfolding counted
-counted-put new control old number first e c = ap (λ (xs : List ℕ). slice_index (ends_of xs) 2) e ∙ ap
-    (λ (xs : List ℕ). slice_index xs 2) c.ends
-
-pub first_free-put : (new : List (List ℕ)) (control old : List ℕ) (number first : ℕ) → bytes_at new 0 ≡ control
-    → ChangesEnds old control number first → first_free new ≡ first
-unfolding first_free
-first_free-put new control old number first e c = ap (λ (xs : List ℕ). slice_index (ends_of xs) 3) e ∙ ap
-    (λ (xs : List ℕ). slice_index xs 3) c.ends
-
--- a head that is known
-pub link-known : (bytes : List ℕ) (head : Head) → head_of bytes ≡ head → link_of bytes ≡ head.link
-unfolding link_of
-link-known bytes head e = ap (λ (h : Head). h.link) e
-
-pub owner-known : (bytes : List ℕ) (head : Head) → head_of bytes ≡ head → owner_of bytes ≡ head.owner
-unfolding owner_of
-owner-known bytes head e = ap (λ (h : Head). h.owner) e
-
-pub kind-known : (bytes : List ℕ) (head : Head) → head_of bytes ≡ head → kind_of bytes ≡ head.kind
-kind-known bytes head e = ap (λ (h : Head). h.kind) e
 
 pub bases-apart : (shape : Shape) (v u : ℕ) → 0 < shape.base → v ≢ u → first_base shape v ≢ first_base shape u
 bases-apart shape v u b n e = elim (cases_lt v u) as (λ _. ⊥) [

@@ -1,10 +1,10 @@
 -- What changes where an element is given back.
-use Rattle.std.specs.Prelude.{◌≡◌, ◌≢◌, ℕ, List, length}
+use Rattle.std.specs.Prelude.{◌≡◌, ◌≢◌, ◌⊎◌, ℕ, List, length}
 use Rattle.ci_space.specs.declared.intervals.Shape.{Shape}
 use Rattle.ci_space.specs.Interval.{IsUsed, Keeps, IsEmpty, kind_of}
 use Rattle.ci_overflow.specs.Places.{kind_at}
-use Rattle.ci_overflow.specs.Lists.{bytes_at, link_of, owner_of, first_free}
-use Rattle.ci_overflow.specs.Rooms.{OnlyOneChanges, KeepsEnds, KeepsButLink, KeepsRoots}
+use Rattle.ci_overflow.specs.Lists.{bytes_at, link_of, owner_of, counted, first_free}
+use Rattle.ci_overflow.specs.Rooms.{OnlyOneChanges, KeepsEnds, KeepsButLink, KeepsKinds, KeepsRoots}
 
 -- an independent overflow interval becomes empty
 pub record BecomesEmpty (old new : List ℕ) : Type 0 where
@@ -43,6 +43,11 @@ pub record TakesBack (shape : Shape) (old new : List (List ℕ)) (ci at : ℕ) :
   pub roots : KeepsRoots old new
   pub sequential : (other : ℕ) → other ≢ ci → kind_at shape other ≡ 4 → bytes_at new other ≡ bytes_at old other
   pub same_number : length new ≡ length old
+  pub kinds : KeepsKinds old new
+  -- a link that changes leads on to where that of `ci` led, and control counts as many
+  pub relinked : (other : ℕ) → other ≢ 0 → other ≢ ci → (bytes_at new other ≡ bytes_at old other)
+      ⊎ (link_of (bytes_at new other) ≡ link_of (bytes_at old ci))
+  pub same_count : ci ≢ 0 → counted new ≡ counted old
 
 -- the same where the lists are in order: `ci` is then neither control nor a sequential interval
 pub record GivesBack (shape : Shape) (old new : List (List ℕ)) (ci at : ℕ) : Type 0 where

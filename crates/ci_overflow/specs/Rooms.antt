@@ -193,6 +193,35 @@ pub record KeepsButLink (old new : List ℕ) : Type 0 where
 abbrev pub KeepsRoots : List (List ℕ) → List (List ℕ) → Type 0
 KeepsRoots old new = (other : ℕ) → (head_of (bytes_at new other)).root ≡ (head_of (bytes_at old other)).root
 
+-- each interval stays one, of its kind
+abbrev pub KeepsKinds : List (List ℕ) → List (List ℕ) → Type 0
+KeepsKinds old new = (other : ℕ) → IsInterval (bytes_at old other)
+    → IsInterval (bytes_at new other) × (kind_of (bytes_at new other) ≡ kind_of (bytes_at old other))
+
+-- the interval `ci` was there and keeps its head, and no other changes
+pub record KeepsHead (old new : List (List ℕ)) (ci : ℕ) : Type 0 where
+  pub below : ci < length old
+  pub head : Keeps (bytes_at old ci) (bytes_at new ci) 0 32
+  pub others : (other : ℕ) → other ≢ ci → bytes_at new other ≡ bytes_at old other
+  pub same_number : length new ≡ length old
+
+-- The interval `ci` is at the front of a unit of work's list now. It was the first of the free chain, which begins
+-- where its link led; or where that chain is empty it is a new one, and control counts one more.
+pub record JoinsFront (shape : Shape) (uow : ℕ) (old new : List (List ℕ)) (ci : ℕ) : Type 0 where
+  pub is_next : IsNext old ci
+  pub head : head_of (bytes_at new ci) ≡ (record {
+    kind = 5;
+    root = (0, 0);
+    link =
+        link_of (bytes_at old (first_base shape uow));
+    owner = uow + 1;
+  })
+  pub leads : link_of (bytes_at new (first_base shape uow)) ≡ ci
+  pub from_free : first_free old ≢ 0 → (first_free new ≡ link_of (bytes_at old ci)) × (counted new ≡ counted old)
+      × (length new ≡ length old)
+  pub from_end : first_free old ≡ 0 → (first_free new ≡ 0) × (counted new ≡ counted old + 1)
+      × (length new ≡ length old + 1)
+
 -- a new element of `n` bytes or more is there, and all else stays
 pub record TakesRoom (shape : Shape) (old new : List (List ℕ)) (anchor n : ℕ) (room : ℕ × ℕ) : Type 0 where
   -- it is a used element now, and was none before
@@ -212,6 +241,9 @@ pub record TakesRoom (shape : Shape) (old new : List (List ℕ)) (anchor n : ℕ
   pub roots : KeepsRoots old new
   -- no interval goes away
   pub longer : length old ≤ length new
+  pub kinds : KeepsKinds old new
+  -- its interval was there and keeps its head, or joins the front of the unit's list
+  pub source : KeepsHead old new room.0 ⊎ JoinsFront shape (uow_of shape anchor) old new room.0
 
 -- where the lists are in order, it stands in the stated place too
 pub record FindsRoom (shape : Shape) (old new : List (List ℕ)) (anchor n : ℕ) (room : ℕ × ℕ) : Type 0 where

@@ -5,6 +5,10 @@
 #![tactic(auto)]
 
 #[cfg(test)]
+mod counted;
+#[cfg(test)]
 mod elements;
 #[cfg(test)]
 mod overflow;
+#[cfg(test)]
+mod runs;

@@ -417,7 +417,7 @@ module _ (shape : Shape) (types : List SegDef) (old new : List (List ℕ)) (anch
     place_met : Contains has.elements it.place
     place_met = met_roots has.is_chain.are_roots after it.type it.place it.says it.is_there
 
-    alone_chain : IsChain shape types new anchor after has.elements
+    pub alone_chain : IsChain shape types new anchor after has.elements
     alone_chain = record {
       base = put_keeps_place shape types old new it.type it.place it.says puts (base_of shape anchor)
           has.is_chain.base;

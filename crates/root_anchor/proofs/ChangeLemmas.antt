@@ -1,9 +1,12 @@
 -- Lists of which one has one segment more don't differ in one segment.
-use Rattle.std.proofs.Common.{◌≡◌, ◌≢◌, ℕ, List, length, slice_get, Some, ap, subst, arith}
+use Rattle.std.proofs.Common.{◌≡◌, ◌≢◌, ℕ, List, length, slice_get, Some, refl, ap, subst, arith}
 use Rattle.fp_model.specs.declared.database.Node.{Node, out-Node}
 use Rattle.fp_model.specs.declared.database.Root.{Root}
 use Rattle.root_changes.specs.Differing.{DifferAt, NodesDiffer, own, lower, RowDiffers, HaveSameOwn, RootDiffers, own_root, lower_root, RootsDiffer}
 use Rattle.root_changes.specs.Gaining.{RowGains, new_segment, lower_segment, RootsGain, new_root, below_root}
+use Rattle.root_changes.specs.declared.gaining.Gain.{Gain}
+use Rattle.root_changes.specs.declared.gaining.Gain.TheVariants.{New, Within, Not}
+use Rattle.root_changes.specs.Telling.{TellsRootGain}
 use Rattle.root_changes.proofs.ComparingLemmas.{one_place, same_lengths, same_there, nodes_apart, rows_apart, roots_apart}
 use Rattle.root_changes.proofs.GainingLemmas.{more_lengths}
 
@@ -95,3 +98,11 @@ gain_apart before after (new_root {k = k} {root = root} m bare) e =
     absurd (omega (arith, more_lengths before after k root m, ap length e))
 gain_apart before after (below_root {lower = low} {more = more} {x = x} {y = y} at same below gains) e =
     gain_rows_apart low more gains (same_there below (ap (λ (r : Root). r.children) (same_there at e)))
+
+-- what a comparison tells is so
+pub gain_told : (roots others : List Root) (gain : Gain) → TellsRootGain roots others gain → gain ≢ Not
+    → RootsGain roots others
+gain_told roots others Not t n = absurd (n refl)
+gain_told roots others (New k) t n = let h = t.new k refl in new_root h.more h.bare
+gain_told roots others (Within k j) t n =
+    let w = t.within k j refl in below_root w.at w.own w.below.at w.below.gains

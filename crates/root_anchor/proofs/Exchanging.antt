@@ -4,6 +4,7 @@ use Rattle.std.proofs.lemmas.List.Elements.{Contains-append_left, Contains-appen
 use Rattle.ci_space.specs.declared.intervals.Shape.{Shape}
 use Rattle.ci_space.specs.Interval.{HasUsed, IsUsed}
 use Rattle.ci_overflow.specs.Lists.{bytes_at}
+use Rattle.ci_overflow.specs.Rooms.{KeepsKinds}
 use Rattle.anchor_elements.specs.Elements.{Pointer}
 use Rattle.root_anchor.specs.Stored.{KeepsSequential}
 use Rattle.root_anchor.specs.Rebuilding.{Exchanges}
@@ -19,6 +20,9 @@ sequential-joined shape a b c p q = record {
   };
   intervals = λ ci k. q.intervals ci k ∙ p.intervals ci k;
 }
+
+pub kinds-joined : (a b c : List (List ℕ)) → KeepsKinds a b → KeepsKinds b c → KeepsKinds a c
+kinds-joined a b c p q ci i = let x = p ci i in let y = q ci x.0 in (y.0, y.1 ∙ x.1)
 
 pub used-stays : (old new : List ℕ) (at : ℕ) → ((type : ℕ) (content : List ℕ) → HasUsed old at type content → HasUsed
     new at type content) → IsUsed old at → IsUsed new at
@@ -37,7 +41,6 @@ exchange-both shape a b c had has more now e f u d =
     λ at n x. used-stays (bytes_at a at.0) (bytes_at b at.0) at.1 (λ type content. e.stay at type content n) x
     in
     record {
-      in_order = f.in_order;
       stay = λ at type content n h.
           f.stay at type content (λ m. n (Contains-append_left more had at m))
           (e.stay at type content (λ m. n (Contains-append_right more had at m)) h);
@@ -67,7 +70,9 @@ exchange-both shape a b c had has more now e f u d =
       once = apart-both now has f.once e.once (λ at k m. elim (f.fresh at k) as (λ _. ⊥)
           [ inl x ↦ own at m x | inr x ↦ x (e.used at m) ]);
       roots = λ ci. f.roots ci ∙ e.roots ci;
-      sequential = sequential-joined shape a b c e.sequential f.sequential;
+      kinds = kinds-joined a b c e.kinds f.kinds;
+      in_order = λ o. f.in_order (e.in_order o);
+      sequential = λ o. sequential-joined shape a b c (e.sequential o) (f.sequential (e.in_order o));
     }
 
 -- an exchange, and then one of what came
@@ -78,7 +83,6 @@ exchange-again shape a b c had between has e f =
     λ at n x. used-stays (bytes_at a at.0) (bytes_at b at.0) at.1 (λ type content. e.stay at type content n) x
     in
     record {
-      in_order = f.in_order;
       stay = λ at type content n h.
           f.stay at type content (λ m. elim (e.fresh at m) as (λ _. ⊥)
           [ inl x ↦ n x | inr x ↦ x (record { segment = type; content = content; used = h }) ])
@@ -96,5 +100,7 @@ exchange-again shape a b c had between has e f =
       used = f.used;
       once = f.once;
       roots = λ ci. f.roots ci ∙ e.roots ci;
-      sequential = sequential-joined shape a b c e.sequential f.sequential;
+      kinds = kinds-joined a b c e.kinds f.kinds;
+      in_order = λ o. f.in_order (e.in_order o);
+      sequential = λ o. sequential-joined shape a b c (e.sequential o) (f.sequential (e.in_order o));
     }

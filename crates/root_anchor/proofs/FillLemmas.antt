@@ -1,21 +1,13 @@
 -- An anchor's roots with one segment more: the pointer to it leads there, and every other element stays.
-use Rattle.std.proofs.Common.{◌≡◌, ◌≢◌, ◌⊎◌, inl, inr, ℕ, ◌+◌, ◌<◌, ◌≤◌, List, [], ◌∷◌, ◌++◌, length, replicate, Contains, None, Result, Ok, Err, IfOk, refl, sym, ap, ◌∙◌, subst, arith}
+use Rattle.std.proofs.Common.{◌≡◌, ◌≢◌, ◌⊎◌, inl, inr, ℕ, ◌<◌, List, [], ◌∷◌, ◌++◌, length, replicate, Contains, None, Result, Ok, Err, IfOk, refl, sym, ap, ◌∙◌, subst, arith}
 use Rattle.std.proofs.lemmas.List.{append-nil}
 use Rattle.std.proofs.lemmas.List.Elements.{Contains-append_left, Contains-append_right, Contains-append_cases}
 use Rattle.ci_space.specs.declared.intervals.Shape.{Shape}
 use Rattle.ci_space.specs.Interval.{IsUsed}
 use Rattle.ci_space.proofs.Contents.{used-type}
-use Rattle.ci_overflow.specs.Lists.{bytes_at, owner_of, IsInOrder}
-use Rattle.std.proofs.lemmas.Bool.{cases_lt}
-use Rattle.std.proofs.lemmas.List.{get_or_past}
-use Rattle.ci_space.specs.declared.head.Head.{Head}
-use Rattle.ci_space.specs.Head.{head_of}
-use Rattle.ci_space.proofs.Tilings.{size-bounds}
-use Rattle.ci_overflow.specs.Places.{base_of, first_base, first_independent, uow_of}
-use Rattle.ci_overflow.specs.Rooms.{IsOwnRoom, its_base, a_dependent, an_independent}
-use Rattle.ci_overflow.proofs.Finds.{same_or, base-some}
-use Rattle.ci_overflow.proofs.Joins.{base-before}
-use Rattle.ci_overflow.proofs.Tries.{head-owner}
+use Rattle.ci_overflow.specs.Lists.{bytes_at, IsInOrder, IsInPlace}
+use Rattle.ci_overflow.specs.Places.{base_of, first_base, uow_of}
+use Rattle.ci_overflow.specs.Rooms.{IsOwnRoom, TakesOne}
 use Rattle.fp_model.specs.declared.definitions.SegDef.{SegDef}
 use Rattle.fp_model.specs.declared.database.Node.{Node}
 use Rattle.fp_model.specs.declared.database.Root.{Root}
@@ -30,24 +22,26 @@ use Rattle.root_anchor.specs.declared.gaps.Gap.{Gap}
 use Rattle.root_anchor.specs.declared.gaps.Link.{Link}
 use Rattle.root_anchor.specs.declared.gaps.Link.TheVariants.{Next, FirstChild}
 use Rattle.root_anchor.specs.declared.standing.Standing.{Standing}
-use Rattle.root_anchor.specs.Chains.{AreRows, no_row, row_end, segment, AreRoots, no_root, root, newest, root_of, anchor_count}
+use Rattle.root_anchor.specs.Chains.{AreRows, no_row, row_end, segment, AreRoots, no_root, root, newest, root_of, anchor_count, IsChain}
 use Rattle.root_anchor.specs.Differing.{ChangesAlone}
-use Rattle.root_anchor.specs.Formed.{HasRoots, IsFormed}
-use Rattle.root_anchor.specs.Gaps.{AddsOne, FewChange, SegmentsStay, StaysIn, linked, Refills, TakesNew, Fills, MeetsOneMore, IsGapInRoots, Adds, AddsBehind, AddsInFront, says_added, links_to}
+use Rattle.root_anchor.specs.Formed.{HasRoots, IsFormed, NewAreOwn}
+use Rattle.root_anchor.specs.Gaps.{AddsOne, FewChange, SegmentsStay, StaysIn, linked, Refills, Fills, MeetsOneMore, IsGapInRoots, Adds, AddsBehind, AddsInFront, says_added, links_to}
+use Rattle.root_anchor.specs.Keeping.{KeepsElements}
 use Rattle.root_anchor.specs.Puts.{PutsRoot}
 use Rattle.root_anchor.specs.Rebuilding.{Exchanges, AreApart, RootsStand, Rebuilds, Shares, met_after}
 use Rattle.root_anchor.specs.Standing.{places_of, AreStanding}
 use Rattle.root_anchor.specs.Stored.{ApartKeep}
-use Rattle.root_anchor.proofs.AloneLemmas.{made_root}
+use Rattle.root_anchor.proofs.AloneLemmas.{alone_chain, made_root}
 use Rattle.root_anchor.proofs.Apart.{contains-one, holds_or, met-now, met-cases}
 use Rattle.root_anchor.proofs.Exchanging.{used-stays, exchange-both}
 use Rattle.root_anchor.proofs.Framing.{Stay, roots_stay, roots_behind}
 use Rattle.root_anchor.proofs.GapLemmas.{bare_rows, lone, lone_stands}
 use Rattle.root_anchor.proofs.Members.{none_in, front_in, behind_in, in_cases}
+use Rattle.root_anchor.proofs.OwnLemmas.{put_keeps_own, root_keeps_own}
 use Rattle.root_anchor.proofs.OneChain.{one_segment, one_chain, chain_has}
-use Rattle.root_anchor.proofs.PutLemmas.{root_keeps_segment, put_keeps_head, put_keeps_segment, put_keeps_order, segment_stays, uow_below}
-use Rattle.root_anchor.proofs.Rebuilt.{base-in-place, IsStored, is-stored, apart-kept}
-use Rattle.root_anchor.proofs.Steps.{finds-place, places-segment, puts-segment}
+use Rattle.root_anchor.proofs.PutLemmas.{root_keeps_segment, put_keeps_segment, segment_stays}
+use Rattle.root_anchor.proofs.Rebuilt.{place-stays, IsStored, is-stored, apart-kept, own-kept}
+use Rattle.root_anchor.proofs.Steps.{finds-place, put-there, puts-segment, takes-one}
 
 -- ---- what was met, each once, and from its end
 
@@ -96,7 +90,6 @@ exchange_wider : (shape : Shape) (old new : List (List ℕ)) (xs ys had has : Li
     → ((p : Pointer) → Contains has p → Contains ys p ⊎ Contains had p)
     → ((p : Pointer) → Contains had p → IsUsed (bytes_at old p.0) p.1) → AreApart has → Exchanges shape old new had has
 exchange_wider shape old new xs ys had has e xh xy yh hh split used once = record {
-  in_order = e.in_order;
   stay = λ p type content n h. e.stay p type content (λ c. n (xh p c)) h;
   none_comes = λ p type content n h.
       let x = e.none_comes p type content (λ c. n (yh p c)) h in
@@ -116,6 +109,8 @@ exchange_wider shape old new xs ys had has e xh xy yh hh split used once = recor
   ];
   once = once;
   roots = e.roots;
+  kinds = e.kinds;
+  in_order = e.in_order;
   sequential = e.sequential;
 }
 
@@ -134,88 +129,26 @@ says_made types added firsts bytes f b =
     } in
     ap P f ∙ ap Q b
 
-same_owner : (old new : List ℕ) → (head_of new).owner ≡ (head_of old).owner → owner_of new ≡ owner_of old
-same_owner old new e = sym (head-owner new (head_of new).owner refl) ∙ e ∙ head-owner old (head_of old).owner refl
-
--- a segment that is put, and a root anchor point, leave each interval with its unit of work
-put_keeps_own : (shape : Shape) (types : List SegDef) (old new : List (List ℕ)) (anchor type : ℕ) (at : Pointer) (ci : ℕ)
-    (s : Segment) → PutsSegment types old new type at s → IsOwnRoom shape old anchor ci → IsOwnRoom shape new anchor ci
-put_keeps_own shape types old new anchor type at ci s p (its_base e) = its_base e
-put_keeps_own shape types old new anchor type at ci s p (a_dependent l h) = a_dependent l h
-put_keeps_own shape types old new anchor type at ci s p (an_independent o) = an_independent (record {
-  from = o.from;
-  below = omega (arith, o.below, p.same_number);
-  owned = same_owner (bytes_at old ci) (bytes_at new ci) (ap (λ (h : Head). h.owner)
-      (put_keeps_head types old new type at s p ci)) ∙ o.owned;
-})
-
-root_keeps_own : (shape : Shape) (old new : List (List ℕ)) (anchor ci : ℕ) (first : Pointer)
-    → PutsRoot shape old new anchor first → IsOwnRoom shape old anchor ci → IsOwnRoom shape new anchor ci
-root_keeps_own shape old new anchor ci first p (its_base e) = its_base e
-root_keeps_own shape old new anchor ci first p (a_dependent l h) = a_dependent l h
-root_keeps_own shape old new anchor ci first p (an_independent o) = an_independent (record {
-  from = o.from;
-  below = omega (arith, o.below, p.same_number);
-  owned = same_owner (bytes_at old ci) (bytes_at new ci) (elim (same_or ci (base_of shape anchor)) as
-      (λ _. (head_of (bytes_at new ci)).owner ≡ (head_of (bytes_at old ci)).owner) [
-        | inl e ↦ subst (λ c. (head_of (bytes_at new c)).owner ≡ (head_of (bytes_at old c)).owner) (sym e)
-            (ap (λ (h : Head). h.owner) p.head)
-        | inr n ↦ ap (λ bytes. (head_of bytes).owner) (p.elsewhere ci n)
-      ]) ∙ o.owned;
-})
-
--- an area in order in which one interval more changes than control and a base interval has at most one more
-none_past_end : (shape : Shape) (old new : List (List ℕ)) (ci : ℕ) → IsInOrder shape new → length old ≤ ci
-    → ci < length new → bytes_at new ci ≡ bytes_at old ci → ⊥
-none_past_end shape old new ci o l b e =
-    let z : bytes_at new ci ≡ [] = e ∙ get_or_past old ci [] l in
-    let i = (o.in_place ci b).is_interval in
-    let s : (512 ≤ length (bytes_at new ci)) × (length (bytes_at new ci) ≤ 4096) =
-    size-bounds (length (bytes_at new ci)) i.tiles.size in
-    omega (arith, s.0, ap length z)
-
-grows_one : (shape : Shape) (old new : List (List ℕ)) (anchor at : ℕ) → IsInOrder shape old → IsInOrder shape new
-    → anchor < anchor_count shape
-    → ((ci : ℕ) → ci ≢ 0 → ci ≢ first_base shape (uow_of shape anchor) → ci ≢ at → bytes_at new ci ≡ bytes_at old ci)
-    → length new ≤ length old + 1
-grows_one shape old new anchor at o n b named = elim (cases_lt (length old + 1) (length new)) as
-    (λ _. length new ≤ length old + 1) [
-      | inr l ↦ omega (arith, l)
-      | inl l ↦
-          let u : uow_of shape anchor < shape.uows = uow_below shape anchor b in
-          let f : first_base shape (uow_of shape anchor) < first_independent shape =
-          base-before shape (uow_of shape anchor) u (base-some anchor shape.uows shape.base b) in
-          let w = o.whole in
-          absurd (elim (same_or (length old) at) as (λ _. ⊥) [
-            | inl e ↦ none_past_end shape old new (length old + 1) n (omega arith) l
-                (named (length old + 1) (λ z. omega (arith, z)) (λ z. omega (arith, z, f, w))
-                (λ z. omega (arith, z, e)))
-            | inr d ↦ none_past_end shape old new (length old) n (omega arith) (omega (arith, l))
-                (named (length old) (λ z. omega (arith, z, f, w)) (λ z. omega (arith, z, f, w)) d)
-          ])
-    ]
-
 pub adds_made : (shape : Shape) (types : List SegDef) (old middle new : List (List ℕ)) (anchor : ℕ) (added : Added)
-    (at : Pointer) (s : Segment) → anchor < anchor_count shape → IsInOrder shape old
-    → TakesNew shape types old middle anchor added.segment at
+    (at : Pointer) (s : Segment) → anchor < anchor_count shape
+    → TakesOne shape old middle anchor (content_length types added.segment) at
     → s ≡ says_added types added → PutsSegment types middle new added.segment at s
     → Adds shape types old new anchor added at
-adds_made shape types old middle new anchor added at s b o t e p =
+adds_made shape types old middle new anchor added at s b t e p =
     let put : PutsSegment types middle new added.segment at (says_added types added) =
     subst (λ (u : Segment). PutsSegment types middle new added.segment at u) e p in
     let place = finds-place shape types old middle added.segment anchor (content_length types added.segment) None at refl
-    refl t.finds t.in_order b in
-    let it = places-segment shape types old middle new added.segment None at (says_added types added) place put in
+    refl t.takes t.in_order t.own b in
     record {
-      exchange = it.exchange;
-      has = it.has;
-      named = λ ci x y z. put.elsewhere ci z ∙ t.finds.named ci x y z;
-      place = t.finds.place;
+      exchange = put-there shape types old middle new anchor added.segment None at (says_added types added) place put;
+      has = put.stands;
+      named = λ ci x y z. put.elsewhere ci z ∙ t.takes.named ci x y z;
+      place = λ o. (t.finds o).place;
       own = put_keeps_own shape types middle new anchor added.segment at at.0 (says_added types added) put t.own;
       one_more = omega (
         arith,
         put.same_number,
-        grows_one shape old middle anchor at.0 o t.in_order b t.finds.named,
+        takes-one shape old middle anchor (content_length types added.segment) at t.takes,
       );
     }
 
@@ -269,11 +202,9 @@ module _ (shape : Shape) (types : List SegDef) (old new : List (List ℕ)) (anch
 
   pub behind_exchange : Exchanges shape old new (gap.holder.at ∷ []) (gap.holder.at ∷ d.at ∷ [])
   behind_exchange =
-      let o : IsInOrder shape new = put_keeps_order shape types d.middle new gap.holder.segment gap.holder.at
-      (links_to gap.holder d.at) d.adds.exchange.in_order used_in_middle d.put in
       exchange-both shape old d.middle new [] (d.at ∷ []) (gap.holder.at ∷ []) (gap.holder.at ∷ []) d.adds.exchange
       (puts-segment shape types d.middle new gap.holder.segment gap.holder.at (links_to gap.holder d.at) d.put
-      d.adds.exchange.in_order o used_in_middle)
+      used_in_middle)
       (λ p c. (let P : Pointer → Type 0 = λ q. IsUsed (bytes_at old q.0) q.1 in
       subst P (contains-one gap.holder.at p c)
       (record { segment = gap.holder.segment; content = there.content; used = there.used })))
@@ -376,9 +307,9 @@ front_few shape types old new anchor first r d =
 -- one has come
 pub behind_one : (shape : Shape) (types : List SegDef) (old new : List (List ℕ)) (anchor : ℕ) (first : Pointer)
     (roots others : List Root) (gap : Gap) → first ≡ root_of shape old anchor → HasRoots shape types old anchor roots
-    → IsGapInRoots types old first roots others gap → AddsBehind shape types old new anchor gap
+    → IsGapInRoots types old first roots others gap → IsInOrder shape old → AddsBehind shape types old new anchor gap
     → AddsOne shape types old new anchor
-behind_one shape types old new anchor first roots others gap e has g d =
+behind_one shape types old new anchor first roots others gap e has g o d =
     let start : AreRoots types old [] first roots has.elements =
     subst (λ p. AreRoots types old [] p roots has.elements) (sym e) has.is_chain.are_roots in
     let fills = behind_fills shape types old new anchor gap g.there d in
@@ -389,7 +320,7 @@ behind_one shape types old new anchor first roots others gap e has g d =
       holder = gap.holder.at.0;
       fresh = none_used shape old d.middle d.at d.adds.exchange;
       used = record { segment = gap.added.segment; content = fills.stands.content; used = fills.stands.used };
-      place = d.adds.place;
+      place = d.adds.place o;
       own = put_keeps_own shape types d.middle new anchor gap.holder.segment gap.holder.at d.at.0
           (links_to gap.holder d.at) d.put d.adds.own;
       holds = inr (record {
@@ -402,8 +333,8 @@ behind_one shape types old new anchor first roots others gap e has g d =
     }
 
 pub front_one : (shape : Shape) (types : List SegDef) (old new : List (List ℕ)) (anchor : ℕ) (first : Pointer)
-    (r : Root) → AddsInFront shape types old new anchor first r → AddsOne shape types old new anchor
-front_one shape types old new anchor first r d =
+    (r : Root) → IsInOrder shape old → AddsInFront shape types old new anchor first r → AddsOne shape types old new anchor
+front_one shape types old new anchor first r o d =
     let now = root_keeps_segment shape types d.middle new anchor d.at d.put d.added.segment d.at
     (says_added types d.added) d.adds.has in
     record {
@@ -412,7 +343,7 @@ front_one shape types old new anchor first r d =
       holder = base_of shape anchor;
       fresh = none_used shape old d.middle d.at d.adds.exchange;
       used = record { segment = d.added.segment; content = now.content; used = now.used };
-      place = d.adds.place;
+      place = d.adds.place o;
       own = root_keeps_own shape d.middle new anchor d.at.0 d.at d.put d.adds.own;
       holds = inl refl;
       others = λ ci x y z w. d.put.elsewhere ci w ∙ d.adds.named ci x y z;
@@ -427,9 +358,10 @@ refilled : (shape : Shape) (types : List SegDef) (old middle new : List (List �
     → (has : HasRoots shape types old anchor roots) → Exchanges shape old middle xs ys
     → ((p : Pointer) → Contains xs p → Contains has.elements p) → ((p : Pointer) → Contains xs p → Contains ys p)
     → ((p : Pointer) → Contains ys p → (p ≡ at) ⊎ Contains xs p) → Contains ys at
+    → IsOwnRoom shape middle anchor at.0
     → AreRoots types middle [] first others now → MeetsOneMore at has.elements now → PutsRoot shape middle new anchor first
     → Rebuilds shape types old new anchor [] all others
-refilled shape types old middle new anchor all roots others first at xs ys now a has e xh xy only is are more put =
+refilled shape types old middle new anchor all roots others first at xs ys now a has e xh xy only is own are more put =
     let same : has.elements ≡ a.elements = (one_chain has.is_chain a.is_chain).1 in
     let to : (p : Pointer) → Contains (places_of all) p → Contains has.elements p =
     λ p c. subst (λ (l : List Pointer). Contains l p) (sym same) ((a.same p).0 c) in
@@ -452,27 +384,35 @@ refilled shape types old middle new anchor all roots others first at xs ys now a
           (λ p c. (let s = chain_has has.is_chain p (to p c) in
           record { segment = s.type; content = s.has.content; used = s.has.used }))
           (turned_once now [] (roots_once are tt) tt (λ p c. none_in p));
+      own = λ p c. elim (met-cases now [] p c) as
+          (λ _. Contains (places_of all) p ⊎ IsOwnRoom shape middle anchor p.0) [
+            | inl m ↦ elim (more.only p m) as (λ _. Contains (places_of all) p ⊎ IsOwnRoom shape middle anchor p.0) [
+              | inl k ↦ inr (let P : Pointer → Type 0 = λ q. IsOwnRoom shape middle anchor q.0 in subst P (sym k) own)
+              | inr x ↦ inl (back p x)
+            ]
+            | inr m ↦ absurd (none_in p m)
+          ];
       stand = stands_anywhere are;
       put = put;
     }
 
 -- a root anchor point that stays
-root_stays : (shape : Shape) (area : List (List ℕ)) (anchor : ℕ) → IsInOrder shape area → anchor < anchor_count shape
+root_stays : (shape : Shape) (area : List (List ℕ)) (anchor : ℕ) → IsInPlace shape area (base_of shape anchor)
     → PutsRoot shape area area anchor (root_of shape area anchor)
-root_stays shape area anchor o b = record {
+root_stays shape area anchor b = record {
   head = refl;
   used = record { stay = λ place type content h. h; none_comes = λ place type content h. h };
-  is_interval = (base-in-place shape area anchor o b).is_interval;
+  is_interval = b.is_interval;
   elsewhere = λ ci n. refl;
   same_number = refl;
 }
 
 pub behind_rebuilds : (shape : Shape) (types : List SegDef) (old new : List (List ℕ)) (anchor : ℕ) (all : List Standing)
-    (first : Pointer) (roots others : List Root) (gap : Gap) → anchor < anchor_count shape
+    (first : Pointer) (roots others : List Root) (gap : Gap)
     → first ≡ root_of shape old anchor → AreStanding shape types old anchor all
     → HasRoots shape types old anchor roots → IsGapInRoots types old first roots others gap
     → AddsBehind shape types old new anchor gap → Rebuilds shape types old new anchor [] all others
-behind_rebuilds shape types old new anchor all first roots others gap b e a has g d =
+behind_rebuilds shape types old new anchor all first roots others gap e a has g d =
     let x = behind_exchange shape types old new anchor gap g.there d in
     let start : AreRoots types old [] first roots has.elements =
     subst (λ p. AreRoots types old [] p roots has.elements) (sym e) has.is_chain.are_roots in
@@ -486,8 +426,12 @@ behind_rebuilds shape types old new anchor all first roots others gap b e a has 
     (λ p c. elim (in_cases gap.holder.at (d.at ∷ []) p c) as (λ _. (p ≡ d.at) ⊎ Contains (gap.holder.at ∷ []) p) [
       | inl q ↦ inr (subst (λ u. Contains (gap.holder.at ∷ []) u) q (front_in gap.holder.at []))
       | inr q ↦ inl (sym (contains-one d.at p q))
-    ]) (behind_in gap.holder.at (d.at ∷ []) d.at (front_in d.at [])) k.are k.more
-    (subst (λ p. PutsRoot shape new new anchor p) (sym same) (root_stays shape new anchor x.in_order b))
+    ]) (behind_in gap.holder.at (d.at ∷ []) d.at (front_in d.at []))
+    (put_keeps_own shape types d.middle new anchor gap.holder.segment gap.holder.at d.at.0 (links_to gap.holder d.at)
+    d.put d.adds.own) k.are k.more
+    (subst (λ p. PutsRoot shape new new anchor p) (sym same) (root_stays shape new anchor
+    (place-stays shape old new (base_of shape anchor) (gap.holder.at ∷ []) (gap.holder.at ∷ d.at ∷ []) x
+    has.is_chain.base)))
 
 -- ---- a root in front of all others
 
@@ -528,7 +472,7 @@ front_rebuilds shape types old new anchor all first roots others r e a has o bar
     } in
     refilled shape types old d.middle new anchor all roots others d.at d.at [] (d.at ∷ []) now a has d.adds.exchange
     (λ p c. absurd (none_in p c)) (λ p c. absurd (none_in p c)) (λ p c. inl (sym (contains-one d.at p c)))
-    (front_in d.at []) (subst (λ l. AreRoots types d.middle [] d.at l now) (sym o) made) more d.put
+    (front_in d.at []) d.adds.own (subst (λ l. AreRoots types d.middle [] d.at l now) (sym o) made) more d.put
 
 -- ---- what a store promises
 
@@ -549,12 +493,54 @@ refill_stores shape types old now new anchor roots e b formed r =
     is-stored shape types old new anchor x.all x.all [] roots b formed x.standing (no_plan x.all) x.rebuilds
 
 pub refill_apart : (shape : Shape) (types : List SegDef) (old now new : List (List ℕ)) (anchor : ℕ) (roots : List Root)
-    → now ≡ old → anchor < anchor_count shape → Refills shape types now new anchor roots
+    → now ≡ old → anchor < anchor_count shape → IsInOrder shape old → Refills shape types now new anchor roots
     → ApartKeep shape types old new anchor
-refill_apart shape types old now new anchor roots e b r =
+refill_apart shape types old now new anchor roots e b o r =
     let x = subst (λ a. Refills shape types a new anchor roots) e r in
-    apart-kept shape types old old new anchor x.all x.all x.all [] roots refl refl b x.standing (no_plan x.all)
+    apart-kept shape types old old new anchor x.all x.all x.all [] roots refl refl b o x.standing (no_plan x.all)
     x.rebuilds
+
+pub refill_own : (shape : Shape) (types : List SegDef) (old now new : List (List ℕ)) (anchor : ℕ) (roots : List Root)
+    → now ≡ old → anchor < anchor_count shape → IsInOrder shape old → Refills shape types now new anchor roots
+    → NewAreOwn shape types old new anchor
+refill_own shape types old now new anchor roots e b o r =
+    let x = subst (λ a. Refills shape types a new anchor roots) e r in
+    own-kept shape types old old new anchor x.all x.all x.all [] roots refl refl b o x.standing (no_plan x.all)
+    x.rebuilds
+
+pub none_own : (shape : Shape) (types : List SegDef) (area : List (List ℕ)) (anchor : ℕ)
+    → NewAreOwn shape types area area anchor
+none_own shape types area anchor = record { each = λ at m. inl m }
+
+pub alone_own : (shape : Shape) (types : List SegDef) (old new : List (List ℕ)) (anchor : ℕ) (before after : List Root)
+    → ChangesAlone shape types old new anchor before after → HasRoots shape types old anchor before
+    → NewAreOwn shape types old new anchor
+alone_own shape types old new anchor before after it has =
+    let chain = alone_chain shape types old new anchor before after it has in
+    record {
+      each = λ at m. inl (record {
+        roots = before;
+        elements = has.elements;
+        is_chain = has.is_chain;
+        met = subst (λ (l : List Pointer). Contains l at) ((one_chain m.is_chain chain).1) m.met;
+      });
+    }
+
+-- the one element that changes alone holds a segment still, and so do the others
+pub alone_keeps : (shape : Shape) (types : List SegDef) (old new : List (List ℕ)) (anchor : ℕ) (before after : List Root)
+    → ChangesAlone shape types old new anchor before after → HasRoots shape types old anchor before
+    → KeepsElements shape types old new anchor after
+alone_keeps shape types old new anchor before after it has = record {
+  keep = λ had elements chain keys. (let P : List Pointer → Type 0 = λ es. IsChain shape types new anchor after es in
+      subst P ((one_chain has.is_chain chain).1) (alone_chain shape types old new anchor before after it has));
+}
+
+pub same_keeps : (shape : Shape) (types : List SegDef) (area : List (List ℕ)) (anchor : ℕ) (roots : List Root)
+    → HasRoots shape types area anchor roots → KeepsElements shape types area area anchor roots
+same_keeps shape types area anchor roots has = record {
+  keep = λ had elements chain keys. (let P : List Pointer → Type 0 = λ es. IsChain shape types area anchor roots es in
+      subst P ((one_chain has.is_chain chain).1) has.is_chain);
+}
 
 -- ---- few change where one does, or none
 

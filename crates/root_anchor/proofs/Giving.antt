@@ -6,7 +6,7 @@ use Rattle.std.proofs.lemmas.List.Elements.{Contains-append_left, Contains-appen
 use Rattle.ci_space.specs.declared.intervals.Shape.{Shape}
 use Rattle.ci_space.specs.Interval.{IsUsed}
 use Rattle.ci_overflow.specs.Lists.{bytes_at, IsInOrder}
-use Rattle.ci_overflow.specs.Freed.{GivesBack}
+use Rattle.ci_overflow.specs.Freed.{TakesBack, GivesBack}
 use Rattle.anchor_elements.specs.Elements.{Pointer}
 use Rattle.root_anchor.specs.Standing.{places_of}
 use Rattle.root_anchor.specs.Rebuilding.{AreApart, Exchanges, AreGivable}
@@ -17,15 +17,14 @@ use Rattle.root_anchor.proofs.Exchanging.{exchange-both, used-stays}
 use Rattle.root_anchor.proofs.Planning.{exchange-none}
 use Rattle.root_anchor.proofs.Steps.{gives-back}
 
-pub given-none : (shape : Shape) (area : List (List ℕ)) → IsInOrder shape area → Exchanges shape area area [] []
-given-none shape area o = exchange-none shape area o
+pub given-none : (shape : Shape) (area : List (List ℕ)) → Exchanges shape area area [] []
+given-none shape area = exchange-none shape area
 
 -- only which elements give way matters, and not their order
 exchange-same : (shape : Shape) (old new : List (List ℕ)) (had other has : List Pointer)
     → ((at : Pointer) → Contains had at → Contains other at) → ((at : Pointer) → Contains other at → Contains had at)
     → Exchanges shape old new had has → Exchanges shape old new other has
 exchange-same shape old new had other has to from e = record {
-  in_order = e.in_order;
   stay = λ at type content n h. e.stay at type content (λ c. n (to at c)) h;
   none_comes = λ at type content n h. let x = e.none_comes at type content n h in ((λ c. x.0 (from at c)), x.1);
   fresh = λ at c. elim (e.fresh at c) as (λ _. Contains other at ⊎ (¬ IsUsed (bytes_at old at.0) at.1))
@@ -33,6 +32,8 @@ exchange-same shape old new had other has to from e = record {
   used = e.used;
   once = e.once;
   roots = e.roots;
+  kinds = e.kinds;
+  in_order = e.in_order;
   sequential = e.sequential;
 }
 
@@ -95,9 +96,10 @@ given-used shape old now all k one g b e x =
 
 pub given-on : (shape : Shape) (old now new : List (List ℕ)) (all : List Standing) (k : ℕ) (one : Standing)
     → AreGivable old (places_of all) → k < length all → one ≡ get_or all k one
-    → Exchanges shape old now (places_of (take k all)) [] → GivesBack shape now new one.at.0 one.at.1
-    → IsInOrder shape new → Exchanges shape old new (places_of (take (k + 1) all)) []
-given-on shape old now new all k one g b e x y o =
+    → Exchanges shape old now (places_of (take k all)) [] → TakesBack shape now new one.at.0 one.at.1
+    → (IsInOrder shape now → GivesBack shape now new one.at.0 one.at.1)
+    → (IsInOrder shape now → IsInOrder shape new) → Exchanges shape old new (places_of (take (k + 1) all)) []
+given-on shape old now new all k one g b e x t y o =
     let n = next_place old all k one g b e in
     let u : (at : Pointer) → Contains (one.at ∷ []) at → IsUsed (bytes_at old at.0) at.1 =
     λ at c. let P : Pointer → Type 0 = λ p. IsUsed (bytes_at old p.0) p.1 in
@@ -108,7 +110,7 @@ given-on shape old now new all k one g b e x y o =
     in
     exchange-same shape old new (one.at ∷ places_of (take k all)) (places_of (take (k + 1) all)) [] n.more n.back
     (exchange-both shape old now new (places_of (take k all)) [] (one.at ∷ []) [] x
-    (gives-back shape now new one.at y o) u d)
+    (gives-back shape now new one.at t y o) u d)
 
 -- all of them
 pub given-all : (shape : Shape) (old new : List (List ℕ)) (all : List Standing) (k : ℕ) → length all ≤ k
@@ -116,3 +118,18 @@ pub given-all : (shape : Shape) (old new : List (List ℕ)) (all : List Standing
 given-all shape old new all k l x =
     let P : List Standing → Type 0 = λ xs. Exchanges shape old new (places_of xs) [] in
     subst P (take_all k all l) x
+
+-- ---- what the area comes to
+
+-- elements of a part of a list are elements of it
+pub part-held : (all : List Standing) (k : ℕ) (one : Standing) → k < length all → one ≡ get_or all k one
+    → Contains (places_of all) one.at
+part-held all k one b e =
+    let d : drop k all ≡ one ∷ drop (suc k) all =
+    drop-cons all k one b ∙ ap (λ y. y ∷ drop (suc k) all) (sym e) in
+    let whole : places_of all ≡ places_of (take k all) ++ (one.at ∷ places_of (drop (suc k) all)) =
+    ap places_of (sym (take-append-drop k all)) ∙ map-append (λ (s : Standing). s.at) (take k all) (drop k all)
+    ∙ ap (λ xs. places_of (take k all) ++ places_of xs) d in
+    let Q : List Pointer → Type 0 = λ xs. Contains xs one.at in
+    subst Q (sym whole) (Contains-append_right (places_of (take k all)) (one.at ∷ places_of (drop (suc k) all)) one.at
+    (front_in one.at (places_of (drop (suc k) all))))

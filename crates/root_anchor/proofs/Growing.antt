@@ -1,23 +1,26 @@
 -- The loops that build rows and roots from their ends: how far they have come, and one step on.
-use Rattle.std.proofs.Common.{◌≡◌, ℕ, zero, suc, ◌+◌, ◌-◌, ◌<◌, ◌≤◌, inl, inr, List, [], ◌∷◌, ◌++◌, length, get_or, take, drop, set, map, flat_map, Contains, Option, Result, Ok, Err, IfOk, refl, sym, ap, ◌∙◌, subst, append_assoc, arith}
+use Rattle.std.proofs.Common.{◌≡◌, ℕ, zero, suc, ◌+◌, ◌-◌, ◌<◌, ◌≤◌, inl, inr, List, [], ◌∷◌, ◌++◌, length, get_or, take, drop, set, map, flat_map, Contains, Option, refl, sym, ap, ◌∙◌, subst, append_assoc, arith}
 use Rattle.std.proofs.Math.Seq.{take-suc, drop-cons}
 use Rattle.std.proofs.lemmas.List.{append-nil, map-append, drop_all, drop-set, take_all}
 use Rattle.std.proofs.lemmas.Grind.{flat_map-append}
 use Rattle.ci_space.specs.declared.intervals.Shape.{Shape}
-use Rattle.ci_space.specs.Interval.{HasUsed, IsUsed}
+use Rattle.ci_space.specs.Interval.{HasRoom, HasUsed, IsUsed}
 use Rattle.ci_overflow.specs.Lists.{bytes_at}
 use Rattle.fp_model.specs.declared.definitions.SegDef.{SegDef}
 use Rattle.fp_model.specs.declared.database.Node.{Node, out-Node}
 use Rattle.fp_model.specs.declared.database.Node.TheFolds.{fold_out-Node}
 use Rattle.fp_model.specs.declared.database.Root.{Root}
 use Rattle.fp_model.specs.Order.{child_types}
-use Rattle.anchor_elements.specs.Elements.{Pointer, nothing}
+use Rattle.anchor_elements.specs.Elements.{Pointer, nothing, content_length}
+use Rattle.anchor_elements.specs.Puts.{PutsSegment}
 use Rattle.root_anchor.specs.Chains.{newest}
 use Rattle.anchor_elements.specs.Elements.{AreTypes}
-use Rattle.root_anchor.specs.Rebuilding.{Exchanges, HaveRoom, AreReserved, PlacesSegment, reserved, types_of, IsPlanned, RowsStand, RootsStand, BuildsRows, BuildsRoots, BuildsSegment, types_step, types_below, types_in_rows, types_of_row, types_of_rows, types_of_segment, types_of_roots}
+use Rattle.root_anchor.specs.Rebuilding.{Exchanges, StandIn, IsPlaced, HaveRoom, AreReserved, and_place, reserved, types_of, IsPlanned, RowsStand, RootsStand, BuildsRows, BuildsRoots, BuildsSegment, types_step, types_below, types_in_rows, types_of_row, types_of_rows, types_of_segment, types_of_roots}
 use Rattle.root_anchor.specs.declared.plan.Planned.{Planned}
 use Rattle.root_anchor.proofs.Exchanging.{exchange-both}
 use Rattle.root_anchor.proofs.PutLemmas.{segment_stays}
+use Rattle.root_anchor.proofs.OwnLemmas.{stand-both, stand-none, stand-one}
+use Rattle.root_anchor.proofs.Steps.{puts-segment}
 use Rattle.root_anchor.proofs.Planning.{reserved-append, reserved-left, reserved-right, reserved-disjoint, rooms-used, still-reserved, IsLeft, IsNext, IsFurther, next-part, further, none-left, exchange-none, all-left}
 use Rattle.root_anchor.proofs.Rows.{no-rows, row-ends, row-begins, row-before, rows-stay, no-roots, root-begins, roots-stay}
 
@@ -84,7 +87,7 @@ pub record RowDone (shape : Shape) (types : List SegDef) (old now : List (List �
   pub built : BuildsRows shape types old now done (type ∷ []) (next ∷ []) (drop k row ∷ [])
 
 pub row-none : (shape : Shape) (types : List SegDef) (area : List (List ℕ)) (plan before used : List Planned) (type : ℕ)
-    (row : List Node) → IsPlanned shape types area plan before used (types_of_row types type row)
+    (row : List Node) → IsPlanned types area plan before used (types_of_row types type row)
     → RowDone shape types area area plan before used type row (length row) nothing
 row-none shape types area plan before used type row p =
     let t : take (length row) row ≡ row = take_all (length row) row (omega arith) in
@@ -97,7 +100,8 @@ row-none shape types area plan before used type row p =
       rest = subst P (sym t) (all-left shape types area plan before used (types_of_row types type row) p);
       built = record {
         elements = [];
-        exchange = exchange-none shape area p.in_order;
+        exchange = exchange-none shape area;
+        stand_in = stand-none area;
         stand =
             subst Q (sym d) (row-ends types area type);
       };
@@ -106,10 +110,10 @@ row-none shape types area plan before used type row p =
 -- the part of the plan for the segment that is next
 pub row-next : (shape : Shape) (types : List SegDef) (old now : List (List ℕ)) (plan0 plan before used : List Planned)
     (type : ℕ) (row : List Node) (k : ℕ) (next : Pointer) (node : Node)
-    → IsPlanned shape types old plan0 before used (types_of_row types type row)
+    → IsPlanned types old plan0 before used (types_of_row types type row)
     → (d : RowDone shape types old now plan before used type row (suc k) next) → k < length row
     → node ≡ get_or row k node
-    → IsNext shape types now plan before d.left (types_of_row types type (take k row))
+    → IsNext types now plan before d.left (types_of_row types type (take k row))
     (types_of_segment types type (out-Node node).children)
 row-next shape types old now plan0 plan before used type row k next node p d b e =
     let P : List ℕ → Type 0 = λ kinds. IsLeft plan before used d.left d.done kinds in
@@ -119,10 +123,10 @@ row-next shape types old now plan0 plan before used type row k next node p d b e
 
 pub row-step : (shape : Shape) (types : List SegDef) (old now new : List (List ℕ))
     (plan0 plan plan2 before used : List Planned) (type : ℕ) (row : List Node) (k : ℕ) (next at : Pointer) (node : Node)
-    → IsPlanned shape types old plan0 before used (types_of_row types type row)
+    → IsPlanned types old plan0 before used (types_of_row types type row)
     → (d : RowDone shape types old now plan before used type row (suc k) next) → k < length row
     → node ≡ get_or row k node
-    → ((b u : List Planned) → IsPlanned shape types now plan b u (types_of_segment types type (out-Node node).children)
+    → ((b u : List Planned) → IsPlanned types now plan b u (types_of_segment types type (out-Node node).children)
     → (plan2 ≡ b) × BuildsSegment shape types now new u type at next 0 (out-Node node).bytes (out-Node node).children)
     → RowDone shape types old new plan2 before used type row k at
 row-step shape types old now new plan0 plan plan2 before used type row k next at node p d b e f =
@@ -131,14 +135,14 @@ row-step shape types old now new plan0 plan plan2 before used type row k next at
     let P : List ℕ → Type 0 = λ kinds. IsLeft plan before used d.left d.done kinds in
     let l : IsLeft plan before used d.left d.done (first ++ second) =
     subst P (row-types types type row k node b e) d.rest in
-    let n : IsNext shape types now plan before d.left first second =
+    let n : IsNext types now plan before d.left first second =
     row-next shape types old now plan0 plan before used type row k next node p d b e in
     let g : (plan2 ≡ before ++ n.rest) × BuildsSegment shape types now new n.part type at next 0 (out-Node node).bytes
     (out-Node node).children = f (before ++ n.rest) n.part n.planned in
     let x : IsFurther shape types old now new plan2 before used n.rest (n.part ++ d.done) first d.built.elements
     (at ∷ g.1.below) =
     further shape types old now new plan0 plan plan2 before used d.left d.done (types_of_row types type row) first
-    second d.built.elements (at ∷ g.1.below) p l d.built.exchange n g.0 g.1.exchange
+    second d.built.elements (at ∷ g.1.below) p l d.built.exchange n g.0 g.1.exchange d.built.stand_in g.1.stand_in
     in
     let others : RowsStand types new (type ∷ []) (next ∷ []) (drop (suc k) row ∷ []) d.built.elements =
     rows-stay types now new (type ∷ []) (next ∷ []) (drop (suc k) row ∷ []) d.built.elements
@@ -165,6 +169,7 @@ row-step shape types old now new plan0 plan plan2 before used type row k next at
       built = record {
         elements = at ∷ (g.1.below ++ d.built.elements);
         exchange = x.exchange;
+        stand_in = x.stand_in;
         stand =
             subst Q (sym here) all;
       };
@@ -190,7 +195,7 @@ pub record RowsDone (shape : Shape) (types : List SegDef) (old now : List (List 
 pub rows-none : (shape : Shape) (types : List SegDef) (area : List (List ℕ)) (plan before used : List Planned)
     (kinds : List ℕ) (rows : List (List Node)) (firsts : List Pointer)
     → length rows ≡ length kinds → length firsts ≡ length rows
-    → IsPlanned shape types area plan before used (types_of_rows types kinds rows)
+    → IsPlanned types area plan before used (types_of_rows types kinds rows)
     → RowsDone shape types area area plan before used kinds rows (length rows) firsts
 rows-none shape types area plan before used kinds rows firsts m l p =
     let t : take (length rows) rows ≡ rows = take_all (length rows) rows (omega arith) in
@@ -204,15 +209,15 @@ rows-none shape types area plan before used kinds rows firsts m l p =
       left = used;
       done = [];
       rest = rw (t, s) (all-left shape types area plan before used (types_of_rows types kinds rows) p);
-      built = record { elements = []; exchange = exchange-none shape area p.in_order; stand = stand };
+      built = record { elements = []; exchange = exchange-none shape area; stand_in = stand-none area; stand = stand };
     }
 
 pub rows-next : (shape : Shape) (types : List SegDef) (old now : List (List ℕ)) (plan0 plan before used : List Planned)
     (kinds : List ℕ) (rows : List (List Node)) (k : ℕ) (firsts : List Pointer) (row : List Node) (type : ℕ)
-    → length rows ≡ length kinds → IsPlanned shape types old plan0 before used (types_of_rows types kinds rows)
+    → length rows ≡ length kinds → IsPlanned types old plan0 before used (types_of_rows types kinds rows)
     → (d : RowsDone shape types old now plan before used kinds rows (suc k) firsts)
     → k < length rows → row ≡ get_or rows k row → type ≡ get_or kinds k 0
-    → IsNext shape types now plan before d.left (types_of_rows types (take k kinds) (take k rows))
+    → IsNext types now plan before d.left (types_of_rows types (take k kinds) (take k rows))
     (types_of_row types type row)
 rows-next shape types old now plan0 plan before used kinds rows k firsts row type m p d b e t =
     let P : List ℕ → Type 0 = λ kinds. IsLeft plan before used d.left d.done kinds in
@@ -229,10 +234,10 @@ pub rows-step : (shape : Shape) (types : List SegDef) (old now new : List (List 
     (plan0 plan plan2 before used : List Planned) (kinds : List ℕ) (rows : List (List Node)) (k : ℕ)
     (firsts firsts2 : List Pointer) (row : List Node) (type : ℕ) (first : Pointer)
     → length rows ≡ length kinds → length firsts ≡ length rows
-    → IsPlanned shape types old plan0 before used (types_of_rows types kinds rows)
+    → IsPlanned types old plan0 before used (types_of_rows types kinds rows)
     → (d : RowsDone shape types old now plan before used kinds rows (suc k) firsts)
     → k < length rows → row ≡ get_or rows k row → type ≡ get_or kinds k 0 → firsts2 ≡ set firsts k first
-    → ((b u : List Planned) → IsPlanned shape types now plan b u (types_of_row types type row) → (plan2 ≡ b)
+    → ((b u : List Planned) → IsPlanned types now plan b u (types_of_row types type row) → (plan2 ≡ b)
     × BuildsRows shape types now new u (type ∷ []) (first ∷ []) (row ∷ []))
     → RowsDone shape types old new plan2 before used kinds rows k firsts2
 rows-step shape types old now new plan0 plan plan2 before used kinds rows k firsts firsts2 row type first m w p d b e t
@@ -243,14 +248,14 @@ rows-step shape types old now new plan0 plan plan2 before used kinds rows k firs
     let h : types_of_rows types (take (suc k) kinds) (take (suc k) rows) ≡ one ++ two =
     rows-types types kinds rows k row m b e ∙ ap (λ x. one ++ types_of_row types x row) (sym t) in
     let l : IsLeft plan before used d.left d.done (one ++ two) = subst P h d.rest in
-    let n : IsNext shape types now plan before d.left one two =
+    let n : IsNext types now plan before d.left one two =
     rows-next shape types old now plan0 plan before used kinds rows k firsts row type m p d b e t in
     let g : (plan2 ≡ before ++ n.rest) × BuildsRows shape types now new n.part (type ∷ []) (first ∷ []) (row ∷ []) =
     f (before ++ n.rest) n.part n.planned in
     let x : IsFurther shape types old now new plan2 before used n.rest (n.part ++ d.done) one d.built.elements
     g.1.elements =
     further shape types old now new plan0 plan plan2 before used d.left d.done (types_of_rows types kinds rows) one two
-    d.built.elements g.1.elements p l d.built.exchange n g.0 g.1.exchange
+    d.built.elements g.1.elements p l d.built.exchange n g.0 g.1.exchange d.built.stand_in g.1.stand_in
     in
     let others : RowsStand types new (drop (suc k) kinds) (drop (suc k) firsts) (drop (suc k) rows) d.built.elements =
     rows-stay types now new (drop (suc k) kinds) (drop (suc k) firsts) (drop (suc k) rows) d.built.elements
@@ -275,7 +280,7 @@ rows-step shape types old now new plan0 plan plan2 before used kinds rows k firs
       left = n.rest;
       done = n.part ++ d.done;
       rest = x.is_left;
-      built = record { elements = g.1.elements ++ d.built.elements; exchange = x.exchange; stand = stand };
+      built = record { elements = g.1.elements ++ d.built.elements; exchange = x.exchange; stand_in = x.stand_in; stand = stand };
     }
 
 pub rows-whole : (shape : Shape) (types : List SegDef) (old now : List (List ℕ)) (plan before used : List Planned)
@@ -299,7 +304,7 @@ pub record RootsDone (shape : Shape) (types : List SegDef) (old now : List (List
   pub built : BuildsRoots shape types old now done next (drop k roots)
 
 pub roots-none : (shape : Shape) (types : List SegDef) (area : List (List ℕ)) (plan before used : List Planned)
-    (roots : List Root) → IsPlanned shape types area plan before used (types_of_roots types roots)
+    (roots : List Root) → IsPlanned types area plan before used (types_of_roots types roots)
     → RootsDone shape types area area plan before used roots (length roots) nothing
 roots-none shape types area plan before used roots p =
     let t : take (length roots) roots ≡ roots = take_all (length roots) roots (omega arith) in
@@ -312,7 +317,8 @@ roots-none shape types area plan before used roots p =
       rest = subst P (sym t) (all-left shape types area plan before used (types_of_roots types roots) p);
       built = record {
         elements = [];
-        exchange = exchange-none shape area p.in_order;
+        exchange = exchange-none shape area;
+        stand_in = stand-none area;
         stand =
             subst Q (sym d) (no-roots types area);
       };
@@ -320,10 +326,10 @@ roots-none shape types area plan before used roots p =
 
 pub roots-next : (shape : Shape) (types : List SegDef) (old now : List (List ℕ)) (plan0 plan before used : List Planned)
     (roots : List Root) (k : ℕ) (next : Pointer) (root : Root)
-    → IsPlanned shape types old plan0 before used (types_of_roots types roots)
+    → IsPlanned types old plan0 before used (types_of_roots types roots)
     → (d : RootsDone shape types old now plan before used roots (suc k) next) → k < length roots
     → root ≡ get_or roots k root
-    → IsNext shape types now plan before d.left (types_of_roots types (take k roots))
+    → IsNext types now plan before d.left (types_of_roots types (take k roots))
     (types_of_segment types 0 root.children)
 roots-next shape types old now plan0 plan before used roots k next root p d b e =
     let P : List ℕ → Type 0 = λ kinds. IsLeft plan before used d.left d.done kinds in
@@ -334,11 +340,11 @@ roots-next shape types old now plan0 plan before used roots k next root p d b e 
 pub roots-step : (shape : Shape) (types : List SegDef) (old now new : List (List ℕ))
     (plan0 plan plan2 before used : List Planned) (roots : List Root) (k : ℕ) (next at : Pointer) (root : Root)
     (serial : ℕ)
-    → IsPlanned shape types old plan0 before used (types_of_roots types roots)
+    → IsPlanned types old plan0 before used (types_of_roots types roots)
     → (d : RootsDone shape types old now plan before used roots (suc k) next) → k < length roots
     → root ≡ get_or roots k root
     → newest serial ≡ root.seqs
-    → ((b u : List Planned) → IsPlanned shape types now plan b u (types_of_segment types 0 root.children) → (plan2 ≡ b)
+    → ((b u : List Planned) → IsPlanned types now plan b u (types_of_segment types 0 root.children) → (plan2 ≡ b)
     × BuildsSegment shape types now new u 0 at next serial root.bytes root.children)
     → RootsDone shape types old new plan2 before used roots k at
 roots-step shape types old now new plan0 plan plan2 before used roots k next at root serial p d b e w f =
@@ -347,14 +353,14 @@ roots-step shape types old now new plan0 plan plan2 before used roots k next at 
     let P : List ℕ → Type 0 = λ kinds. IsLeft plan before used d.left d.done kinds in
     let l : IsLeft plan before used d.left d.done (first ++ second) =
     subst P (roots-types types roots k root b e) d.rest in
-    let n : IsNext shape types now plan before d.left first second =
+    let n : IsNext types now plan before d.left first second =
     roots-next shape types old now plan0 plan before used roots k next root p d b e in
     let g : (plan2 ≡ before ++ n.rest) × BuildsSegment shape types now new n.part 0 at next serial root.bytes
     root.children = f (before ++ n.rest) n.part n.planned in
     let x : IsFurther shape types old now new plan2 before used n.rest (n.part ++ d.done) first d.built.elements
     (at ∷ g.1.below) =
     further shape types old now new plan0 plan plan2 before used d.left d.done (types_of_roots types roots) first second
-    d.built.elements (at ∷ g.1.below) p l d.built.exchange n g.0 g.1.exchange
+    d.built.elements (at ∷ g.1.below) p l d.built.exchange n g.0 g.1.exchange d.built.stand_in g.1.stand_in
     in
     let others : RootsStand types new next (drop (suc k) roots) d.built.elements =
     roots-stay types now new next (drop (suc k) roots) d.built.elements
@@ -374,6 +380,7 @@ roots-step shape types old now new plan0 plan plan2 before used roots k next at 
       built = record {
         elements = at ∷ (g.1.below ++ d.built.elements);
         exchange = x.exchange;
+        stand_in = x.stand_in;
         stand =
             subst Q (sym here) all;
       };
@@ -390,74 +397,91 @@ roots-whole shape types old now plan before used roots first d =
 -- ---- a segment and what is below it
 
 -- the part of a plan for a segment itself, and that for what is below it
-pub record IsParted (shape : Shape) (types : List SegDef) (old : List (List ℕ)) (plan before used : List Planned)
-    (type : ℕ) (kinds : List ℕ) : Type 0 where
+pub record IsParted (types : List SegDef) (old : List (List ℕ)) (plan before used : List Planned) (type : ℕ)
+    (kinds : List ℕ) : Type 0 where
   pub one : Planned
+  pub has_place : IsPlaced one
   pub below : List Planned
   pub parts : used ≡ one ∷ below
   pub is_type : one.segment ≡ type
-  pub planned : IsPlanned shape types old plan (before ++ one ∷ []) below kinds
+  pub planned : IsPlanned types old plan (before ++ one ∷ []) below kinds
 
-pub parted : (shape : Shape) (types : List SegDef) (old : List (List ℕ)) (plan before used : List Planned) (type : ℕ)
-    (kinds : List ℕ) → IsPlanned shape types old plan before used (type ∷ kinds)
-    → IsParted shape types old plan before used type kinds
-parted shape types old plan before [] type kinds p = absurd (let h = p.kinds_are in cc)
-parted shape types old plan before (one ∷ below) type kinds p =
+pub parted : (types : List SegDef) (old : List (List ℕ)) (plan before used : List Planned) (type : ℕ)
+    (kinds : List ℕ) → IsPlanned types old plan before used (type ∷ kinds)
+    → IsParted types old plan before used type kinds
+parted types old plan before [] type kinds p = absurd (let h = p.kinds_are in cc)
+parted types old plan before (one ∷ below) type kinds p =
     let h = p.kinds_are in
     let e : one.segment ≡ type = cc in
     let f : types_of below ≡ kinds = cc in
     record {
       one = one;
+      has_place = p.placed.0;
       below = below;
       parts = refl;
       is_type = e;
       planned = record {
-        in_order = p.in_order;
         parts = p.parts ∙ sym (append_assoc before (one ∷ []) below);
         kinds_are = f;
         are_reserved = reserved-right types old (one ∷ []) below p.are_reserved;
+        placed = p.placed.1;
       };
     }
 
 module _ (shape : Shape) (types : List SegDef) (old mid : List (List ℕ)) (plan before used : List Planned) (type : ℕ)
     (kinds : List ℕ) (firsts : List Pointer) (rows : List (List Node))
-    (p : IsPlanned shape types old plan before used (type ∷ kinds))
-    (it : IsParted shape types old plan before used type kinds)
+    (p : IsPlanned types old plan before used (type ∷ kinds))
+    (it : IsParted types old plan before used type kinds)
     (b : BuildsRows shape types old mid it.below (child_types types type) firsts rows) where
   all_reserved : AreReserved types old ((it.one ∷ []) ++ it.below)
   all_reserved = let P : List Planned → Type 0 = λ xs. AreReserved types old xs in subst P it.parts p.are_reserved
 
-  pub room-left : HaveRoom types mid type it.one.at
+  one_place : (rest : List Pointer) → and_place it.one.at rest ≡ it.has_place.place ∷ rest
+  one_place rest = ap (λ (o : Option Pointer). and_place o rest) it.has_place.is_place
+
+  pub room-left : HasRoom (bytes_at mid it.has_place.place.0) it.has_place.place.1 (content_length types type)
   room-left =
       let P : ℕ → Type 0 = λ t. HaveRoom types mid t it.one.at in
-      subst P it.is_type (still-reserved shape types old mid (it.one ∷ []) it.below b.elements all_reserved
-      b.exchange).rooms.0
+      let Q : Option Pointer → Type 0 = λ o. HaveRoom types mid type o in
+      subst Q it.has_place.is_place (subst P it.is_type (still-reserved shape types old mid (it.one ∷ []) it.below
+      b.elements all_reserved b.exchange).rooms.0)
 
-  pub segment-whole : (new : List (List ℕ)) (at next : Pointer) (serial : ℕ) (bytes : List ℕ)
-      → PlacesSegment shape types mid new type it.one.at at
-      (record { next = next; serial = serial; firsts = firsts; bytes = bytes })
+  pub segment-whole : (new : List (List ℕ)) (at next : Pointer) (serial : ℕ) (bytes : List ℕ) → at ≡ it.has_place.place
+      → PutsSegment types mid new type at (record { next = next; serial = serial; firsts = firsts; bytes = bytes })
       → BuildsSegment shape types old new used type at next serial bytes rows
-  segment-whole new at next serial bytes w =
+  segment-whole new at next serial bytes f w =
       let u : (q : Pointer) → Contains (reserved (it.one ∷ [])) q → IsUsed (bytes_at old q.0) q.1 =
       rooms-used types old (it.one ∷ []) (reserved-left types old (it.one ∷ []) it.below all_reserved).rooms in
       let d : (q : Pointer) → Contains (reserved (it.one ∷ [])) q → ¬ Contains (reserved it.below) q =
       reserved-disjoint types old (it.one ∷ []) it.below all_reserved in
+      let R : Pointer → Type 0 = λ q. IsUsed (bytes_at mid q.0) q.1 in
+      let put : Exchanges shape mid new (at ∷ []) (at ∷ []) = puts-segment shape types mid new type at
+      (record { next = next; serial = serial; firsts = firsts; bytes = bytes }) w
+      (subst R (sym f) (record { segment = room-left.segment; content = room-left.content; used = room-left.used })) in
+      let S : List Pointer → Type 0 = λ had. Exchanges shape mid new had (at ∷ []) in
+      let one : at ∷ [] ≡ reserved (it.one ∷ []) = ap (λ (q : Pointer). q ∷ []) f ∙ sym (one_place []) in
+      let own : Exchanges shape mid new (reserved (it.one ∷ [])) (at ∷ []) = subst S one put in
       let x : Exchanges shape old new (reserved (it.one ∷ []) ++ reserved it.below) ((at ∷ []) ++ b.elements) =
       exchange-both shape old mid new (reserved it.below) b.elements (reserved (it.one ∷ [])) (at ∷ []) b.exchange
-      w.exchange u d in
+      own u d in
       let P : List Pointer → Type 0 = λ had. Exchanges shape old new had (at ∷ b.elements) in
       let e : reserved (it.one ∷ []) ++ reserved it.below ≡ reserved used =
       sym (reserved-append (it.one ∷ []) it.below) ∙ ap reserved (sym it.parts) in
       let stay : (q : Pointer) (t : ℕ) (content : List ℕ) → Contains b.elements q
       → HasUsed (bytes_at mid q.0) q.1 t content → HasUsed (bytes_at new q.0) q.1 t content =
-      λ q t content c h. w.exchange.stay q t content
+      λ q t content c h. own.stay q t content
       (λ m. elim (b.exchange.fresh q c) as (λ _. ⊥) [ inl y ↦ d q m y | inr y ↦ y (u q m) ]) h
       in
+      let T : List Pointer → Type 0 = λ places. StandIn mid new places (at ∷ []) in
+      let U : List Pointer → Type 0 = λ places. StandIn old new places (at ∷ b.elements) in
       record {
         firsts = firsts;
         below = b.elements;
         exchange = subst P e x;
-        has = w.has;
+        stand_in = subst U e (stand-both old mid new (reserved it.below) b.elements (reserved (it.one ∷ [])) (at ∷ [])
+            b.stand_in (subst T one (stand-one types mid new type at
+            (record { next = next; serial = serial; firsts = firsts; bytes = bytes }) w)));
+        has = w.stands;
         stand = rows-stay types mid new (child_types types type) firsts rows b.elements
             (λ q c t s h. segment_stays types mid new t q s (λ content. stay q t content c) h) b.stand;
       }
@@ -469,10 +493,10 @@ sucs left b = omega arith
 
 pub row-part : (shape : Shape) (types : List SegDef) (old now : List (List ℕ)) (plan0 plan before used : List Planned)
     (type : ℕ) (row xs : List Node) (left : ℕ) (next : Pointer) (node : Node)
-    → IsPlanned shape types old plan0 before used (types_of_row types type row)
+    → IsPlanned types old plan0 before used (types_of_row types type row)
     → RowDone shape types old now plan before used type row left next → 0 < left → left ≤ length row → xs ≡ row
     → node ≡ get_or xs (left - 1) node
-    → (b : List Planned) × (u : List Planned) × IsPlanned shape types now plan b u
+    → (b : List Planned) × (u : List Planned) × IsPlanned types now plan b u
     (types_of_segment types type (out-Node node).children)
 row-part shape types old now plan0 plan before used type row xs left next node p d z b x e =
     let P : ℕ → Type 0 = λ k. RowDone shape types old now plan before used type row k next in
@@ -483,11 +507,11 @@ row-part shape types old now plan0 plan before used type row xs left next node p
 pub row-on : (shape : Shape) (types : List SegDef) (old now new : List (List ℕ))
     (plan0 plan plan2 before used : List Planned) (type : ℕ) (row xs : List Node) (left : ℕ) (next at : Pointer)
     (node : Node) (bytes : List ℕ)
-    → IsPlanned shape types old plan0 before used (types_of_row types type row)
+    → IsPlanned types old plan0 before used (types_of_row types type row)
     → RowDone shape types old now plan before used type row left next → 0 < left → left ≤ length row → xs ≡ row
     → node ≡ get_or xs (left - 1) node
     → bytes ≡ (out-Node node).bytes
-    → ((b u : List Planned) → IsPlanned shape types now plan b u (types_of_segment types type (out-Node node).children)
+    → ((b u : List Planned) → IsPlanned types now plan b u (types_of_segment types type (out-Node node).children)
     → (plan2 ≡ b) × BuildsSegment shape types now new u type at next 0 bytes (out-Node node).children)
     → RowDone shape types old new plan2 before used type row (left - 1) at
 row-on shape types old now new plan0 plan plan2 before used type row xs left next at node bytes p d z b x e y f =
@@ -502,10 +526,10 @@ row-on shape types old now new plan0 plan plan2 before used type row xs left nex
 
 pub rows-part : (shape : Shape) (types : List SegDef) (old now : List (List ℕ)) (plan0 plan before used : List Planned)
     (kinds : List ℕ) (rows xs : List (List Node)) (left : ℕ) (firsts : List Pointer) (row : List Node) (type : ℕ)
-    → length rows ≡ length kinds → IsPlanned shape types old plan0 before used (types_of_rows types kinds rows)
+    → length rows ≡ length kinds → IsPlanned types old plan0 before used (types_of_rows types kinds rows)
     → RowsDone shape types old now plan before used kinds rows left firsts → 0 < left → left ≤ length rows
     → xs ≡ rows → row ≡ get_or xs (left - 1) row → type ≡ get_or kinds (left - 1) 0
-    → (b : List Planned) × (u : List Planned) × IsPlanned shape types now plan b u (types_of_row types type row)
+    → (b : List Planned) × (u : List Planned) × IsPlanned types now plan b u (types_of_row types type row)
 rows-part shape types old now plan0 plan before used kinds rows xs left firsts row type m p d z b x e t =
     let P : ℕ → Type 0 = λ k. RowsDone shape types old now plan before used kinds rows k firsts in
     let n = rows-next shape types old now plan0 plan before used kinds rows (left - 1) firsts row type m p
@@ -516,11 +540,11 @@ pub rows-on : (shape : Shape) (types : List SegDef) (old now new : List (List �
     (plan0 plan plan2 before used : List Planned) (kinds : List ℕ) (rows xs : List (List Node)) (left : ℕ)
     (firsts firsts2 : List Pointer) (row : List Node) (type : ℕ) (first : Pointer)
     → length rows ≡ length kinds → length firsts ≡ length rows
-    → IsPlanned shape types old plan0 before used (types_of_rows types kinds rows)
+    → IsPlanned types old plan0 before used (types_of_rows types kinds rows)
     → RowsDone shape types old now plan before used kinds rows left firsts → 0 < left → left ≤ length rows
     → xs ≡ rows → row ≡ get_or xs (left - 1) row → type ≡ get_or kinds (left - 1) 0
     → firsts2 ≡ set firsts (left - 1) first
-    → ((b u : List Planned) → IsPlanned shape types now plan b u (types_of_row types type row) → (plan2 ≡ b)
+    → ((b u : List Planned) → IsPlanned types now plan b u (types_of_row types type row) → (plan2 ≡ b)
     × BuildsRows shape types now new u (type ∷ []) (first ∷ []) (row ∷ []))
     → RowsDone shape types old new plan2 before used kinds rows (left - 1) firsts2
 rows-on shape types old now new plan0 plan plan2 before used kinds rows xs left firsts firsts2 row type first m w p d z
@@ -531,10 +555,10 @@ rows-on shape types old now new plan0 plan plan2 before used kinds rows xs left 
 
 pub roots-part : (shape : Shape) (types : List SegDef) (old now : List (List ℕ)) (plan0 plan before used : List Planned)
     (roots xs : List Root) (left : ℕ) (next : Pointer) (root : Root)
-    → IsPlanned shape types old plan0 before used (types_of_roots types roots)
+    → IsPlanned types old plan0 before used (types_of_roots types roots)
     → RootsDone shape types old now plan before used roots left next → 0 < left → left ≤ length roots → xs ≡ roots
     → root ≡ get_or xs (left - 1) root
-    → (b : List Planned) × (u : List Planned) × IsPlanned shape types now plan b u
+    → (b : List Planned) × (u : List Planned) × IsPlanned types now plan b u
     (types_of_segment types 0 root.children)
 roots-part shape types old now plan0 plan before used roots xs left next root p d z b x e =
     let P : ℕ → Type 0 = λ k. RootsDone shape types old now plan before used roots k next in
@@ -545,11 +569,11 @@ roots-part shape types old now plan0 plan before used roots xs left next root p 
 pub roots-on : (shape : Shape) (types : List SegDef) (old now new : List (List ℕ))
     (plan0 plan plan2 before used : List Planned) (roots xs : List Root) (left : ℕ) (next at : Pointer) (root : Root)
     (serial : ℕ) (bytes : List ℕ)
-    → IsPlanned shape types old plan0 before used (types_of_roots types roots)
+    → IsPlanned types old plan0 before used (types_of_roots types roots)
     → RootsDone shape types old now plan before used roots left next → 0 < left → left ≤ length roots → xs ≡ roots
     → root ≡ get_or xs (left - 1) root
     → newest serial ≡ root.seqs → bytes ≡ root.bytes
-    → ((b u : List Planned) → IsPlanned shape types now plan b u (types_of_segment types 0 root.children) → (plan2 ≡ b)
+    → ((b u : List Planned) → IsPlanned types now plan b u (types_of_segment types 0 root.children) → (plan2 ≡ b)
     × BuildsSegment shape types now new u 0 at next serial bytes root.children)
     → RootsDone shape types old new plan2 before used roots (left - 1) at
 roots-on shape types old now new plan0 plan plan2 before used roots xs left next at root serial bytes p d z b x e w y f
@@ -568,48 +592,35 @@ same-types a b types e t = let P : ℕ → Type 0 = λ n. AreTypes n types in su
 
 -- a segment that is put in front of what was built below it
 pub room-planned : (shape : Shape) (types : List SegDef) (old mid : List (List ℕ)) (plan before used : List Planned)
-    (type : ℕ) (firsts : List Pointer) (rows : List (List Node)) (planned : Option Pointer)
-    → (p : IsPlanned shape types old plan before used (types_of_segment types type rows))
-    → (it : IsParted shape types old plan before used type (types_of_rows types (child_types types type) rows))
-    → BuildsRows shape types old mid it.below (child_types types type) firsts rows → planned ≡ it.one.at
-    → HaveRoom types mid type planned
-room-planned shape types old mid plan before used type firsts rows planned p it b e =
-    let P : Option Pointer → Type 0 = λ o. HaveRoom types mid type o in
+    (type : ℕ) (firsts : List Pointer) (rows : List (List Node)) (at : Pointer)
+    → (p : IsPlanned types old plan before used (types_of_segment types type rows))
+    → (it : IsParted types old plan before used type (types_of_rows types (child_types types type) rows))
+    → BuildsRows shape types old mid it.below (child_types types type) firsts rows → at ≡ it.has_place.place
+    → HasRoom (bytes_at mid at.0) at.1 (content_length types type)
+room-planned shape types old mid plan before used type firsts rows at p it b e =
+    let P : Pointer → Type 0 = λ q. HasRoom (bytes_at mid q.0) q.1 (content_length types type) in
     subst P (sym e) (room-left shape types old mid plan before used type
     (types_of_rows types (child_types types type) rows) firsts rows p it b)
 
-pub segment-made : {E : Type 0} (shape : Shape) (types : List SegDef) (old mid new : List (List ℕ))
-    (plan plan2 before used : List Planned) (type : ℕ) (firsts said : List Pointer) (rows : List (List Node))
-    (planned : Option Pointer) (next : Pointer) (serial : ℕ) (bytes : List ℕ) (r : Result Pointer E)
-    → (p : IsPlanned shape types old plan before used (types_of_segment types type rows))
-    → (it : IsParted shape types old plan before used type (types_of_rows types (child_types types type) rows))
-    → BuildsRows shape types old mid it.below (child_types types type) firsts rows → planned ≡ it.one.at
-    → plan2 ≡ before → said ≡ firsts
-    → IfOk r (λ at. PlacesSegment shape types mid new type planned at
-    (record { next = next; serial = serial; firsts = said; bytes = bytes }))
-    → IfOk r (λ at. (plan2 ≡ before) × BuildsSegment shape types old new used type at next serial bytes rows)
-segment-made shape types old mid new plan plan2 before used type firsts said rows planned next serial bytes (Err x) p it
-    b e q s w = tt
-segment-made shape types old mid new plan plan2 before used type firsts said rows planned next serial bytes (Ok at) p it
-    b e q s w =
-    let P : Option Pointer → Type 0 = λ o. PlacesSegment shape types mid new type o at (record {
-      next = next;
-      serial =
-          serial;
-      firsts = said;
-      bytes = bytes;
-    }) in
-    let Q : List Pointer → Type 0 = λ f. PlacesSegment shape types mid new type it.one.at at (record {
+pub segment-made : (shape : Shape) (types : List SegDef) (old mid new : List (List ℕ))
+    (plan before used : List Planned) (type : ℕ) (firsts said : List Pointer) (rows : List (List Node))
+    (at next : Pointer) (serial : ℕ) (bytes : List ℕ)
+    → (p : IsPlanned types old plan before used (types_of_segment types type rows))
+    → (it : IsParted types old plan before used type (types_of_rows types (child_types types type) rows))
+    → BuildsRows shape types old mid it.below (child_types types type) firsts rows → at ≡ it.has_place.place
+    → said ≡ firsts
+    → PutsSegment types mid new type at (record { next = next; serial = serial; firsts = said; bytes = bytes })
+    → BuildsSegment shape types old new used type at next serial bytes rows
+segment-made shape types old mid new plan before used type firsts said rows at next serial bytes p it b e s w =
+    let Q : List Pointer → Type 0 = λ f. PutsSegment types mid new type at (record {
       next =
           next;
       serial = serial;
       firsts = f;
       bytes = bytes;
-    }) in (
-      q,
-      segment-whole shape types old mid plan before used type (types_of_rows types (child_types types type) rows)
-          firsts rows p it b new at next serial bytes (subst Q s (subst P e w)),
-    )
+    }) in
+    segment-whole shape types old mid plan before used type (types_of_rows types (child_types types type) rows)
+    firsts rows p it b new at next serial bytes e (subst Q s w)
 
 -- ---- the types of what is planned, from its end
 

@@ -32,3 +32,7 @@ pub mod GapPlaces
 pub mod ChangeLemmas
 pub mod Directs
 pub mod Takings
+pub mod ComingLemmas
+pub mod OwnLemmas
+pub mod KeepLemmas
+pub mod KeyLemmas

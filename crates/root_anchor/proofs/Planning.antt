@@ -4,11 +4,12 @@ use Rattle.std.proofs.lemmas.List.{append-nil}
 use Rattle.root_anchor.proofs.Exchanging.{exchange-both}
 use Rattle.ci_space.specs.declared.intervals.Shape.{Shape}
 use Rattle.ci_space.specs.Interval.{HasUsed, IsUsed, HasRoom}
-use Rattle.ci_overflow.specs.Lists.{bytes_at, IsInOrder}
+use Rattle.ci_overflow.specs.Lists.{bytes_at}
 use Rattle.fp_model.specs.declared.definitions.SegDef.{SegDef}
 use Rattle.anchor_elements.specs.Elements.{Pointer, content_length}
-use Rattle.root_anchor.specs.Rebuilding.{AreApart, Exchanges, and_place, reserved, types_of, HaveRooms, AreReserved, IsPlanned}
+use Rattle.root_anchor.specs.Rebuilding.{AreApart, Exchanges, and_place, reserved, types_of, HaveRooms, ArePlaced, AreReserved, IsPlanned, StandIn}
 use Rattle.root_anchor.specs.declared.plan.Planned.{Planned}
+use Rattle.root_anchor.proofs.OwnLemmas.{stand-both}
 use Rattle.root_anchor.proofs.Apart.{apart-left, apart-right, apart-disjoint}
 use Rattle.root_anchor.proofs.Members.{none_in, front_in, behind_in, in_cases}
 
@@ -32,6 +33,15 @@ pub rooms-right : (types : List SegDef) (area : List (List ℕ)) (xs ys : List P
     → HaveRooms types area ys
 rooms-right types area [] ys h = h
 rooms-right types area (p ∷ xs) ys h = rooms-right types area xs ys h.1
+
+-- each segment of the parts has a place
+pub places-left : (xs ys : List Planned) → ArePlaced (xs ++ ys) → ArePlaced xs
+places-left [] ys h = tt
+places-left (p ∷ xs) ys h = (h.0, places-left xs ys h.1)
+
+pub places-right : (xs ys : List Planned) → ArePlaced (xs ++ ys) → ArePlaced ys
+places-right [] ys h = h
+places-right (p ∷ xs) ys h = places-right xs ys h.1
 
 pub reserved-left : (types : List SegDef) (area : List (List ℕ)) (xs ys : List Planned)
     → AreReserved types area (xs ++ ys) → AreReserved types area xs
@@ -148,19 +158,19 @@ still-reserved shape types old now xs ys has r e = record {
 }
 
 -- the next part of a plan, from its end
-pub record IsNext (shape : Shape) (types : List SegDef) (now : List (List ℕ)) (plan before left : List Planned)
+pub record IsNext (types : List SegDef) (now : List (List ℕ)) (plan before left : List Planned)
     (first second : List ℕ) : Type 0 where
   pub rest : List Planned
   pub part : List Planned
   pub parts : left ≡ rest ++ part
   pub rest_types : types_of rest ≡ first
-  pub planned : IsPlanned shape types now plan (before ++ rest) part second
+  pub planned : IsPlanned types now plan (before ++ rest) part second
 
 pub next-part : (shape : Shape) (types : List SegDef) (old now : List (List ℕ))
     (plan0 plan before used left done : List Planned) (kinds first second : List ℕ) (has : List Pointer)
-    → IsPlanned shape types old plan0 before used kinds → IsLeft plan before used left done (first ++ second)
+    → IsPlanned types old plan0 before used kinds → IsLeft plan before used left done (first ++ second)
     → Exchanges shape old now (reserved done) has
-    → IsNext shape types now plan before left first second
+    → IsNext types now plan before left first second
 next-part shape types old now plan0 plan before used left done kinds first second has p l e =
     let s : IsSplit left first second = split left first second l.kinds_are in
     let P : List Planned → Type 0 = λ xs. AreReserved types old xs in
@@ -173,10 +183,11 @@ next-part shape types old now plan0 plan before used left done kinds first secon
       parts = s.parts;
       rest_types = s.left_types;
       planned = record {
-        in_order = e.in_order;
         parts = l.is_left ∙ ap (λ xs. before ++ xs) s.parts ∙ sym (append_assoc before s.left s.right);
         kinds_are = s.right_types;
         are_reserved = reserved-right types now s.left s.right (subst Q s.parts r);
+        placed = places-right s.left s.right (let R : List Planned → Type 0 = ArePlaced in
+            subst R s.parts (places-left left done (subst R l.parts p.placed)));
       };
     }
 
@@ -185,17 +196,19 @@ pub record IsFurther (shape : Shape) (types : List SegDef) (old now new : List (
     (plan before used rest done : List Planned) (first : List ℕ) (has more : List Pointer) : Type 0 where
   pub is_left : IsLeft plan before used rest done first
   pub exchange : Exchanges shape old new (reserved done) (more ++ has)
+  pub stand_in : StandIn old new (reserved done) (more ++ has)
   pub stay : (at : Pointer) (type : ℕ) (content : List ℕ) → Contains has at
       → HasUsed (bytes_at now at.0) at.1 type content → HasUsed (bytes_at new at.0) at.1 type content
 
 pub further : (shape : Shape) (types : List SegDef) (old now new : List (List ℕ))
     (plan0 plan plan2 before used left done : List Planned) (kinds first second : List ℕ) (has more : List Pointer)
-    → IsPlanned shape types old plan0 before used kinds → IsLeft plan before used left done (first ++ second)
+    → IsPlanned types old plan0 before used kinds → IsLeft plan before used left done (first ++ second)
     → Exchanges shape old now (reserved done) has
-    → (n : IsNext shape types now plan before left first second) → plan2 ≡ before ++ n.rest
+    → (n : IsNext types now plan before left first second) → plan2 ≡ before ++ n.rest
     → Exchanges shape now new (reserved n.part) more
+    → StandIn old now (reserved done) has → StandIn now new (reserved n.part) more
     → IsFurther shape types old now new plan2 before used n.rest (n.part ++ done) first has more
-further shape types old now new plan0 plan plan2 before used left done kinds first second has more p l e n q f =
+further shape types old now new plan0 plan plan2 before used left done kinds first second has more p l e n q f i j =
     let P : List Planned → Type 0 = λ xs. AreReserved types old xs in
     let all : used ≡ n.rest ++ (n.part ++ done) = l.parts ∙ ap (λ xs. xs ++ done) n.parts ∙ append_assoc n.rest n.part
     done in
@@ -206,7 +219,10 @@ further shape types old now new plan0 plan plan2 before used left done kinds fir
     let d : (at : Pointer) → Contains (reserved n.part) at → ¬ Contains (reserved done) at =
     reserved-disjoint types old n.part done r in
     let Q : List Pointer → Type 0 = λ xs. Exchanges shape old new xs (more ++ has) in
+    let R : List Pointer → Type 0 = λ xs. StandIn old new xs (more ++ has) in
     record {
+      stand_in = subst R (sym (reserved-append n.part done))
+          (stand-both old now new (reserved done) has (reserved n.part) more i j);
       is_left = record { parts = all; is_left = q; kinds_are = n.rest_types };
       exchange = subst Q (sym (reserved-append n.part done))
           (exchange-both shape old now new (reserved done) has (reserved n.part) more e f u d);
@@ -220,19 +236,20 @@ pub none-left : (plan before used left done : List Planned) → IsLeft plan befo
 none-left plan before used [] done l = (l.is_left ∙ append-nil before, sym l.parts)
 none-left plan before used (p ∷ left) done l = absurd (let h = l.kinds_are in cc)
 
-pub exchange-none : (shape : Shape) (area : List (List ℕ)) → IsInOrder shape area → Exchanges shape area area [] []
-exchange-none shape area o = record {
-  in_order = o;
+pub exchange-none : (shape : Shape) (area : List (List ℕ)) → Exchanges shape area area [] []
+exchange-none shape area = record {
   stay = λ at type content n h. h;
   none_comes = λ at type content n h. (n, h);
   fresh = λ at c. inl c;
   used = λ at c. absurd (none_in at c);
   once = tt;
   roots = λ ci. refl;
-  sequential = record { ends = record { begin = refl; end = refl; head = λ k x y. refl }; intervals = λ ci k. refl };
+  kinds = λ ci i. (i, refl);
+  in_order = λ o. o;
+  sequential = λ o. record { ends = record { begin = refl; end = refl; head = λ k x y. refl }; intervals = λ ci k. refl };
 }
 
 pub all-left : (shape : Shape) (types : List SegDef) (area : List (List ℕ)) (plan before used : List Planned)
-    (kinds : List ℕ) → IsPlanned shape types area plan before used kinds → IsLeft plan before used used [] kinds
+    (kinds : List ℕ) → IsPlanned types area plan before used kinds → IsLeft plan before used used [] kinds
 all-left shape types area plan before used kinds p =
     record { parts = sym (append-nil used); is_left = p.parts; kinds_are = p.kinds_are }

@@ -11,7 +11,7 @@ use Rattle.ci_space.specs.Head.{head_of, ends_of}
 use Rattle.ci_space.proofs.Standing.{used-stands, untiled-none, interval-bounds}
 use Rattle.ci_overflow.specs.Places.{first_base, first_sequential, first_independent, uow_of, base_of, kind_at}
 use Rattle.ci_overflow.specs.Lists.{bytes_at, link_of, owner_of, counted, first_free, IsOwned, HasList, IsInPlace, IsInOrder}
-use Rattle.ci_overflow.specs.Rooms.{KeepsUsed, KeepsEnds}
+use Rattle.ci_overflow.specs.Rooms.{KeepsUsed, KeepsEnds, KeepsKinds}
 use Rattle.ci_overflow.proofs.Tries.{keeps-link, keeps-owner}
 use Rattle.ci_overflow.proofs.Joins.{keeps-head}
 use Rattle.ci_overflow.proofs.Finds.{same_or, control-first, base-some}
@@ -301,17 +301,23 @@ pub put_keeps_roots : (shape : Shape) (types : List SegDef) (old new : List (Lis
 put_keeps_roots shape types old new type at s g anchor =
     ap (λ (h : Head). h.root) (put_keeps_head types old new type at s g (base_of shape anchor))
 
--- each interval keeps its place
-pub put_keeps_place : (shape : Shape) (types : List SegDef) (old new : List (List ℕ)) (type : ℕ) (at : Pointer)
-    (s : Segment) → PutsSegment types old new type at s → (ci : ℕ) → IsInPlace shape old ci → IsInPlace shape new ci
-put_keeps_place shape types old new type at s g ci p = record {
-  is_interval = elim (same_or ci at.0) as (λ _. IsInterval (bytes_at new ci)) [
+-- each interval stays one, of its kind, and keeps its place
+pub put_keeps_kinds : (types : List SegDef) (old new : List (List ℕ)) (type : ℕ) (at : Pointer) (s : Segment)
+    → PutsSegment types old new type at s → KeepsKinds old new
+put_keeps_kinds types old new type at s g ci i = (
+  elim (same_or ci at.0) as (λ _. IsInterval (bytes_at new ci)) [
     | inl e ↦ (let P : ℕ → Type 0 = λ k. IsInterval (bytes_at new k) in
         subst P (sym e) (record { elements = _; tiles = g.stands.used.tiles }))
-    | inr e ↦ rw (← g.elsewhere ci e) at p.is_interval
-  ];
-  is_kind = ap (λ (h : Head). h.kind) (put_keeps_head types old new type at s g ci) ∙ p.is_kind;
-}
+    | inr e ↦ rw (← g.elsewhere ci e) at i
+  ],
+  ap (λ (h : Head). h.kind) (put_keeps_head types old new type at s g ci),
+)
+
+pub put_keeps_place : (shape : Shape) (types : List SegDef) (old new : List (List ℕ)) (type : ℕ) (at : Pointer)
+    (s : Segment) → PutsSegment types old new type at s → (ci : ℕ) → IsInPlace shape old ci → IsInPlace shape new ci
+put_keeps_place shape types old new type at s g ci p =
+    let k = put_keeps_kinds types old new type at s g ci p.is_interval in
+    record { is_interval = k.0; is_kind = k.1 ∙ p.is_kind }
 
 -- control's begin and end stay, and the sequential intervals
 ends_same : (old new : List ℕ) → new ≡ old → KeepsEnds old new

@@ -1,27 +1,31 @@
 -- An anchor that was rebuilt in an area that is whole: it has its new roots, the other anchors theirs, and the area is
 -- whole.
-use Rattle.std.proofs.Common.{◌≡◌, ◌≢◌, ℕ, ◌<◌, inl, inr, List, [], ◌++◌, Contains, refl, sym, ◌∙◌, subst, arith}
+use Rattle.std.proofs.Common.{◌≡◌, ◌≢◌, ◌⊎◌, ℕ, ◌<◌, inl, inr, List, [], ◌++◌, Contains, sym, ◌∙◌, subst, arith}
 use Rattle.ci_space.specs.declared.intervals.Shape.{Shape}
 use Rattle.ci_space.specs.Interval.{HasUsed, IsUsed}
 use Rattle.ci_overflow.specs.Places.{base_of}
 use Rattle.ci_overflow.specs.Lists.{bytes_at, IsInOrder, IsInPlace}
+use Rattle.ci_overflow.specs.Rooms.{IsOwnRoom}
 use Rattle.ci_overflow.proofs.Finds.{same_or}
 use Rattle.fp_model.specs.declared.definitions.SegDef.{SegDef}
 use Rattle.fp_model.specs.declared.database.Root.{Root}
 use Rattle.anchor_elements.specs.Elements.{Pointer}
 use Rattle.root_anchor.specs.Chains.{IsChain, AreRoots, anchor_count, root_of}
-use Rattle.root_anchor.specs.Formed.{IsFormed, HasChain, HasRoots, Meets, IsMet}
+use Rattle.root_anchor.specs.Formed.{IsFormed, HasChain, HasRoots, Meets, IsMet, NewAreOwn}
 use Rattle.root_anchor.specs.Puts.{PutsRoot}
 use Rattle.root_anchor.specs.Stored.{KeepsSequential, OthersKeep, ApartKeep}
 use Rattle.std.proofs.lemmas.List.{append-nil}
 use Rattle.root_anchor.specs.Standing.{places_of, AreStanding}
 use Rattle.root_anchor.specs.declared.plan.Planned.{Planned}
 use Rattle.root_anchor.specs.declared.standing.Standing.{Standing}
-use Rattle.root_anchor.specs.Rebuilding.{Exchanges, RootsStand, met_after, reserved, types_of, types_of_roots, IsPlanned, BuildsRoots, AreGivable, IsRebuildable, Rebuilds, Shares}
+use Rattle.root_anchor.specs.Rebuilding.{Exchanges, RootsStand, met_after, reserved, types_of, types_of_roots, ArePlaced, AreReserved, BuildsPlan, AreGivable, IsRebuildable, Rebuilds, Shares}
 use Rattle.root_anchor.proofs.Planning.{rooms-stay, rooms-used}
 use Rattle.root_anchor.proofs.Sharing.{plan-reserved}
-use Rattle.std.proofs.lemmas.List.Elements.{Contains-append_right}
+use Rattle.std.proofs.lemmas.List.Elements.{Contains-append_left, Contains-append_right}
 use Rattle.root_anchor.proofs.Apart.{holds_or, met-cases, met-now, apart-left, apart-right, apart-disjoint, apart-pairs}
+use Rattle.root_anchor.specs.Faults.{FaultComes, ListsFail}
+use Rattle.root_anchor.proofs.ComingLemmas.{fault-wider}
+use Rattle.root_anchor.proofs.OwnLemmas.{root_keeps_own}
 use Rattle.root_anchor.proofs.Members.{none_in}
 use Rattle.root_anchor.proofs.Exchanging.{sequential-joined, exchange-both}
 use Rattle.root_anchor.proofs.Framing.{Stay, roots_stay}
@@ -39,6 +43,7 @@ base-in-place shape area anchor o b = o.in_place (base_of shape anchor)
 pub record IsRebuilt (shape : Shape) (types : List SegDef) (old middle new : List (List ℕ)) (anchor : ℕ)
     (had has : List Pointer) (first : Pointer) (roots : List Root) : Type 0 where
   pub below : anchor < anchor_count shape
+  pub in_order : IsInOrder shape old
   pub exchange : Exchanges shape old middle had has
   pub stand : RootsStand types middle first roots has
   pub put : PutsRoot shape middle new anchor first
@@ -47,7 +52,7 @@ module _ (shape : Shape) (types : List SegDef) (old middle new : List (List ℕ)
     (first : Pointer) (roots : List Root)
     (it : IsRebuilt shape types old middle new anchor had has first roots) where
   pub new-order : IsInOrder shape new
-  new-order = root_keeps_order shape middle new anchor first it.exchange.in_order it.put it.below
+  new-order = root_keeps_order shape middle new anchor first (it.exchange.in_order it.in_order) it.put it.below
 
   -- a used element that the anchor hadn't stays
   stays : (at : Pointer) (type : ℕ) (content : List ℕ) → ¬ Contains had at
@@ -69,7 +74,7 @@ module _ (shape : Shape) (types : List SegDef) (old middle new : List (List ℕ)
       }
 
   pub new-sequential : KeepsSequential shape old new
-  new-sequential = sequential-joined shape old middle new it.exchange.sequential
+  new-sequential = sequential-joined shape old middle new (it.exchange.sequential it.in_order)
       (root_keeps_sequential shape middle new anchor first it.put it.below)
 
   -- an anchor keeps its roots that had none of those elements
@@ -213,30 +218,31 @@ module _ (shape : Shape) (types : List SegDef) (old middle new : List (List ℕ)
 
 -- ---- the steps of a rebuilding
 
-pub givable : (shape : Shape) (types : List SegDef) (area : List (List ℕ)) (plan : List Planned) (rest : List Standing)
-    (roots : List Root) → IsRebuildable shape types area plan rest roots → AreGivable area (places_of rest)
-givable shape types area plan rest roots r = record
+pub givable : (shape : Shape) (types : List SegDef) (area : List (List ℕ)) (anchor : ℕ) (plan : List Planned)
+    (rest : List Standing) (roots : List Root) → IsRebuildable shape types area anchor plan rest roots
+    → AreGivable area (places_of rest)
+givable shape types area anchor plan rest roots r = record
     { used = r.used; once = apart-right (reserved plan) (places_of rest) r.once }
 
-pub still-planned : (shape : Shape) (types : List SegDef) (old mid : List (List ℕ)) (plan : List Planned)
-    (rest : List Standing) (roots : List Root) → IsRebuildable shape types old plan rest roots
-    → Exchanges shape old mid (places_of rest) []
-    → IsPlanned shape types mid plan [] plan (types_of_roots types roots)
-still-planned shape types old mid plan rest roots r e = record {
-  in_order = e.in_order;
-  parts = refl;
-  kinds_are = r.kinds_are;
-  are_reserved = record {
-    rooms = rooms-stay types old mid plan (λ at t content c h. e.stay at t content
-        (apart-disjoint (reserved plan) (places_of rest) at r.once c) h) r.rooms;
-    once = apart-left (reserved plan) (places_of rest) r.once;
-  };
+pub plan-stays : (shape : Shape) (types : List SegDef) (old mid : List (List ℕ)) (anchor : ℕ) (plan : List Planned)
+    (rest : List Standing) (roots : List Root) → IsRebuildable shape types old anchor plan rest roots
+    → Exchanges shape old mid (places_of rest) [] → AreReserved types mid plan
+plan-stays shape types old mid anchor plan rest roots r e = record {
+  rooms = rooms-stay types old mid plan (λ at t content c h. e.stay at t content
+      (apart-disjoint (reserved plan) (places_of rest) at r.once c) h) r.rooms;
+  once = apart-left (reserved plan) (places_of rest) r.once;
 }
+
+-- what each step leaves in its place
+pub place-stays : (shape : Shape) (old new : List (List ℕ)) (ci : ℕ) (had has : List Pointer)
+    → Exchanges shape old new had has → IsInPlace shape old ci → IsInPlace shape new ci
+place-stays shape old new ci had has e p =
+    let k = e.kinds ci p.is_interval in record { is_interval = k.0; is_kind = k.1 ∙ p.is_kind }
 
 pub rebuilds : (shape : Shape) (types : List SegDef) (old mid mid2 new : List (List ℕ)) (anchor : ℕ)
     (plan : List Planned) (rest : List Standing) (roots : List Root) (first : Pointer)
-    → IsRebuildable shape types old plan rest roots → Exchanges shape old mid (places_of rest) []
-    → BuildsRoots shape types mid mid2 plan first roots → PutsRoot shape mid2 new anchor first
+    → IsRebuildable shape types old anchor plan rest roots → Exchanges shape old mid (places_of rest) []
+    → BuildsPlan shape types mid mid2 anchor plan first roots → PutsRoot shape mid2 new anchor first
     → Rebuilds shape types old new anchor plan rest roots
 rebuilds shape types old mid mid2 new anchor plan rest roots first r e b p =
     let x : Exchanges shape old mid2 (reserved plan ++ places_of rest) (b.elements ++ []) =
@@ -249,18 +255,46 @@ rebuilds shape types old mid mid2 new anchor plan rest roots first r e b p =
       first = first;
       elements = b.elements;
       exchange = subst P (append-nil b.elements) x;
+      own = λ at c. elim (b.own at c) as
+          (λ _. Contains (reserved plan ++ places_of rest) at ⊎ IsOwnRoom shape mid2 anchor at.0)
+          [ inl h ↦ inl (Contains-append_left (reserved plan) (places_of rest) at h) | inr o ↦ inr o ];
       stand =
           b.stand;
       put = p;
     }
 
+-- where the plan has a place for each, the roots stand just there
+pub kept-chain : (shape : Shape) (types : List SegDef) (old mid mid2 new : List (List ℕ)) (anchor : ℕ)
+    (plan : List Planned) (rest : List Standing) (roots : List Root) (first : Pointer) → anchor < anchor_count shape
+    → IsInOrder shape old
+    → IsRebuildable shape types old anchor plan rest roots → Exchanges shape old mid (places_of rest) []
+    → BuildsPlan shape types mid mid2 anchor plan first roots → ArePlaced plan → PutsRoot shape mid2 new anchor first
+    → IsChain shape types new anchor roots (met_after (reserved plan) [])
+kept-chain shape types old mid mid2 new anchor plan rest roots first below o r e b placed p =
+    let x : Exchanges shape old mid2 (reserved plan ++ places_of rest) (b.elements ++ []) =
+    exchange-both shape old mid mid2 (places_of rest) [] (reserved plan) b.elements e b.exchange
+    (rooms-used types old plan r.rooms) (λ at c. apart-disjoint (reserved plan) (places_of rest) at r.once c)
+    in
+    let P : List Pointer → Type 0 = λ has. Exchanges shape old mid2 (reserved plan ++ places_of rest) has in
+    let it : IsRebuilt shape types old mid2 new anchor (reserved plan ++ places_of rest) b.elements first roots = record {
+      below = below;
+      in_order = o;
+      exchange = subst P (append-nil b.elements) x;
+      stand = b.stand;
+      put = p;
+    } in
+    let Q : List Pointer → Type 0 = λ es. IsChain shape types new anchor roots (met_after es []) in
+    subst Q (b.all_kept placed) (new-chain shape types old mid2 new anchor (reserved plan ++ places_of rest) b.elements
+    first roots it)
+
 -- ---- from what an anchor had to its new roots
 
 pub rebuildable : (shape : Shape) (types : List SegDef) (area : List (List ℕ)) (anchor : ℕ) (all rest : List Standing)
-    (plan : List Planned) (roots : List Root) → IsInOrder shape area → AreStanding shape types area anchor all
-    → Shares all plan rest → types_of plan ≡ types_of_roots types roots → IsRebuildable shape types area plan rest roots
-rebuildable shape types area anchor all rest plan roots o a s k = record {
-  in_order = o;
+    (plan : List Planned) (roots : List Root) → AreStanding shape types area anchor all
+    → Shares all plan rest → types_of plan ≡ types_of_roots types roots
+    → IsRebuildable shape types area anchor plan rest roots
+rebuildable shape types area anchor all rest plan roots a s k = record {
+  base = a.is_chain.base;
   kinds_are = k;
   rooms = (plan-reserved shape types area anchor all rest plan a s).rooms;
   used = λ at c.
@@ -283,11 +317,12 @@ pub is-stored : (shape : Shape) (types : List SegDef) (old new : List (List ℕ)
     → AreStanding shape types old anchor all → Shares all plan rest
     → Rebuilds shape types old new anchor plan rest roots → IsStored shape types old new anchor roots
 is-stored shape types old new anchor all rest plan roots b f a s r =
+    let o : IsInOrder shape old = f.in_order in
     let had : List Pointer = reserved plan ++ places_of rest in
     let it : IsRebuilt shape types old r.middle new anchor had r.elements r.first roots = record {
       below = b;
-      exchange =
-          r.exchange;
+      in_order = o;
+      exchange = r.exchange;
       stand = r.stand;
       put = r.put;
     } in
@@ -308,13 +343,12 @@ is-stored shape types old new anchor all rest plan roots b f a s r =
 
 pub ready : (shape : Shape) (types : List SegDef) (old now : List (List ℕ)) (anchor : ℕ)
     (all rest slice : List Standing) (plan : List Planned) (roots : List Root) → now ≡ old → slice ≡ rest
-    → IsInOrder shape old
     → AreStanding shape types old anchor all → Shares all plan rest → types_of plan ≡ types_of_roots types roots
-    → IsRebuildable shape types now plan slice roots
-ready shape types old now anchor all rest slice plan roots e s o a h k =
-    let P : List (List ℕ) → Type 0 = λ area. IsRebuildable shape types area plan slice roots in
-    let Q : List Standing → Type 0 = λ xs. IsRebuildable shape types old plan xs roots in
-    subst P (sym e) (subst Q (sym s) (rebuildable shape types old anchor all rest plan roots o a h k))
+    → IsRebuildable shape types now anchor plan slice roots
+ready shape types old now anchor all rest slice plan roots e s a h k =
+    let P : List (List ℕ) → Type 0 = λ area. IsRebuildable shape types area anchor plan slice roots in
+    let Q : List Standing → Type 0 = λ xs. IsRebuildable shape types old anchor plan xs roots in
+    subst P (sym e) (subst Q (sym s) (rebuildable shape types old anchor all rest plan roots a h k))
 
 pub stores : (shape : Shape) (types : List SegDef) (old now new : List (List ℕ)) (anchor : ℕ)
     (all rest slice : List Standing) (plan : List Planned) (roots : List Root) → now ≡ old → slice ≡ rest
@@ -329,17 +363,17 @@ stores shape types old now new anchor all rest slice plan roots e s b f a h r =
 -- an anchor that shares no element with this one keeps its roots, in any area in order
 pub apart-kept : (shape : Shape) (types : List SegDef) (old now new : List (List ℕ)) (anchor : ℕ)
     (all rest slice : List Standing) (plan : List Planned) (roots : List Root) → now ≡ old → slice ≡ rest
-    → anchor < anchor_count shape → AreStanding shape types old anchor all → Shares all plan rest
+    → anchor < anchor_count shape → IsInOrder shape old → AreStanding shape types old anchor all → Shares all plan rest
     → Rebuilds shape types now new anchor plan slice roots → ApartKeep shape types old new anchor
-apart-kept shape types old now new anchor all rest slice plan roots e f b a s r0 =
+apart-kept shape types old now new anchor all rest slice plan roots e f b o a s r0 =
     let P : List (List ℕ) → Type 0 = λ area. Rebuilds shape types area new anchor plan slice roots in
     let Q : List Standing → Type 0 = λ xs. Rebuilds shape types old new anchor plan xs roots in
     let r : Rebuilds shape types old new anchor plan rest roots = subst Q f (subst P e r0) in
     let had : List Pointer = reserved plan ++ places_of rest in
     let it : IsRebuilt shape types old r.middle new anchor had r.elements r.first roots = record {
       below = b;
-      exchange =
-          r.exchange;
+      in_order = o;
+      exchange = r.exchange;
       stand = r.stand;
       put = r.put;
     } in
@@ -350,7 +384,58 @@ apart-kept shape types old now new anchor all rest slice plan roots e f b a s r0
           subst R ((one_chain a.is_chain m).1) ((a.same at).0 (s.has at k))));
     }
 
+-- each element that an anchor has was one before, or is in its own unit of work
+pub own-kept : (shape : Shape) (types : List SegDef) (old now new : List (List ℕ)) (anchor : ℕ)
+    (all rest slice : List Standing) (plan : List Planned) (roots : List Root) → now ≡ old → slice ≡ rest
+    → anchor < anchor_count shape → IsInOrder shape old → AreStanding shape types old anchor all → Shares all plan rest
+    → Rebuilds shape types now new anchor plan slice roots → NewAreOwn shape types old new anchor
+own-kept shape types old now new anchor all rest slice plan roots e f b o a s r0 =
+    let P : List (List ℕ) → Type 0 = λ area. Rebuilds shape types area new anchor plan slice roots in
+    let Q : List Standing → Type 0 = λ xs. Rebuilds shape types old new anchor plan xs roots in
+    let r : Rebuilds shape types old new anchor plan rest roots = subst Q f (subst P e r0) in
+    let had : List Pointer = reserved plan ++ places_of rest in
+    let it : IsRebuilt shape types old r.middle new anchor had r.elements r.first roots = record {
+      below = b;
+      in_order = o;
+      exchange = r.exchange;
+      stand = r.stand;
+      put = r.put;
+    } in
+    let chain : IsChain shape types new anchor roots (met_after r.elements []) =
+    new-chain shape types old r.middle new anchor had r.elements r.first roots it in
+    record {
+      each = λ at m.
+          let R : List Pointer → Type 0 = λ xs. Contains xs at in
+          let c : Contains r.elements at = elim (met-cases r.elements [] at (subst R ((one_chain m.is_chain chain).1) m.met))
+          as (λ _. Contains r.elements at) [ inl k ↦ k | inr k ↦ absurd (none_in at k) ] in
+          elim (r.own at c) as (λ _. Meets shape types old anchor at ⊎ IsOwnRoom shape new anchor at.0) [
+            | inl h ↦ inl (record {
+              roots = a.roots;
+              elements = a.elements;
+              is_chain = a.is_chain;
+              met = (a.same at).0 (s.has at h);
+            })
+            | inr w ↦ inr (root_keeps_own shape r.middle new anchor at.0 r.first r.put w)
+          ];
+    }
+
 -- an anchor has the roots that stand in its elements
 pub has_chain : {shape : Shape} {types : List SegDef} {area : List (List ℕ)} {anchor : ℕ} {list : List Standing}
     → AreStanding shape types area anchor list → HasChain shape types area anchor
 has_chain standing = record { roots = standing.roots; elements = standing.elements; is_chain = standing.is_chain }
+
+-- an interval that is at fault where the rest of an anchor's elements is given back and room is taken
+pub lists_fail : (shape : Shape) (types : List SegDef) (old now : List (List ℕ)) (anchor ci : ℕ)
+    (all rest slice : List Standing) (plan : List Planned) → now ≡ old → slice ≡ rest
+    → AreStanding shape types old anchor all → Shares all plan rest
+    → FaultComes shape anchor (places_of slice) now ci → ListsFail shape types old anchor ci
+lists_fail shape types old now anchor ci all rest slice plan e s a h f =
+    let P : List (List ℕ) → Type 0 = λ area. FaultComes shape anchor (places_of slice) area ci in
+    let Q : List Standing → Type 0 = λ xs. FaultComes shape anchor (places_of xs) old ci in
+    record {
+      roots = a.roots;
+      elements = a.elements;
+      is_chain = a.is_chain;
+      fault = fault-wider shape anchor (places_of rest) a.elements old ci (λ at c. (a.same at).0
+          (h.has at (Contains-append_right (reserved plan) (places_of rest) at c))) (subst Q s (subst P e f));
+    }

@@ -7,19 +7,20 @@ use Rattle.ci_space.specs.Element.{Used}
 use Rattle.ci_space.specs.Interval.{HasUsed, IsUsed, HasRoom, kind_of, has_elements}
 use Rattle.ci_space.proofs.Tilings.{size-bounds, used-kind}
 use Rattle.ci_overflow.specs.Places.{first_base, kind_at, uow_of}
-use Rattle.ci_overflow.specs.Lists.{bytes_at, IsInOrder}
-use Rattle.ci_overflow.specs.Rooms.{OnlyOneChanges, FindsRoom}
-use Rattle.ci_overflow.specs.Freed.{GivesBack}
+use Rattle.ci_overflow.specs.Lists.{bytes_at, first_free, IsInOrder}
+use Rattle.ci_overflow.specs.Rooms.{IsOwnRoom, OnlyOneChanges, TakesRoom}
+use Rattle.ci_overflow.specs.Freed.{TakesBack, GivesBack}
 use Rattle.ci_overflow.proofs.Finds.{same_or, base-some}
 use Rattle.ci_overflow.proofs.FaultLemmas.{kind-base}
 use Rattle.ci_space.specs.declared.head.Head.{Head}
 use Rattle.fp_model.specs.declared.definitions.SegDef.{SegDef}
 use Rattle.anchor_elements.specs.Elements.{Pointer, Segment, content_length}
 use Rattle.anchor_elements.specs.Puts.{PutsSegment}
-use Rattle.root_anchor.specs.Rebuilding.{Exchanges, and_place, HaveRoom, TakesPlace, PlacesSegment}
+use Rattle.root_anchor.specs.Rebuilding.{Exchanges, and_place, HaveRoom, TakesPlace}
 use Rattle.root_anchor.proofs.Exchanging.{exchange-again}
 use Rattle.root_anchor.specs.Chains.{anchor_count}
-use Rattle.root_anchor.proofs.PutLemmas.{uow_below, put_keeps_order, put_keeps_head, put_keeps_sequential}
+use Rattle.root_anchor.proofs.PutLemmas.{uow_below, put_keeps_order, put_keeps_head, put_keeps_kinds, put_keeps_sequential}
+use Rattle.root_anchor.proofs.OwnLemmas.{room_keeps_own}
 use Rattle.root_anchor.proofs.Apart.{contains-one}
 use Rattle.root_anchor.proofs.Members.{none_in, front_in}
 use Rattle.anchor_elements.proofs.Pointers.{same_pointer}
@@ -98,24 +99,26 @@ not_in at p n e = let P : Pointer → Type 0 = λ q. Contains (at ∷ []) q in n
 
 -- ---- the steps
 
-pub gives-back : (shape : Shape) (old new : List (List ℕ)) (at : Pointer) → GivesBack shape old new at.0 at.1
-    → IsInOrder shape new → Exchanges shape old new (at ∷ []) []
-gives-back shape old new at g o = record {
-  in_order = o;
-  stay = λ p type content n h. one-stays old new at p type content g.others (not_in at p n) h;
+pub gives-back : (shape : Shape) (old new : List (List ℕ)) (at : Pointer) → TakesBack shape old new at.0 at.1
+    → (IsInOrder shape old → GivesBack shape old new at.0 at.1) → (IsInOrder shape old → IsInOrder shape new)
+    → Exchanges shape old new (at ∷ []) []
+gives-back shape old new at t g o = record {
+  stay = λ p type content n h. one-stays old new at p type content t.others (not_in at p n) h;
   none_comes = λ p type content n h.
-      let d : p ≢ at = λ e. g.gone (is_at new at p e (record { segment = type; content = content; used = h })) in
-      (not_one at p d, one-comes old new at p type content g.others d h);
+      let d : p ≢ at = λ e. t.gone (is_at new at p e (record { segment = type; content = content; used = h })) in
+      (not_one at p d, one-comes old new at p type content t.others d h);
   fresh = λ p c. absurd (none_in p c);
   used = λ p c. absurd (none_in p c);
   once = tt;
-  roots = g.roots;
-  sequential = record { ends = g.ends; intervals = g.sequential };
+  roots = t.roots;
+  kinds = t.kinds;
+  in_order = o;
+  sequential = λ i. record { ends = (g i).ends; intervals = (g i).sequential };
 }
 
 pub finds-room : (shape : Shape) (old new : List (List ℕ)) (anchor n : ℕ) (room : Pointer)
-    → FindsRoom shape old new anchor n room → IsInOrder shape new → uow_of shape anchor < shape.uows → 0 < shape.base
-    → Exchanges shape old new [] (room ∷ [])
+    → TakesRoom shape old new anchor n room → (IsInOrder shape old → IsInOrder shape new)
+    → uow_of shape anchor < shape.uows → 0 < shape.base → Exchanges shape old new [] (room ∷ [])
 finds-room shape old new anchor n room f o u b =
     let used : IsUsed (bytes_at new room.0) room.1 = record {
       segment = f.has_room.segment;
@@ -124,7 +127,6 @@ finds-room shape old new anchor n room f o u b =
       used = f.has_room.used;
     } in
     record {
-      in_order = o;
       stay = λ p type content _ h. one-stays old new room p type content f.others
           (λ e. f.fresh (is_at old room p e (record { segment = type; content = content; used = h }))) h;
       none_comes = λ p type content m h. (
@@ -135,21 +137,21 @@ finds-room shape old new anchor n room f o u b =
       used = λ p c. is_at new p room (contains-one room p c) used;
       once = (none_in room, tt);
       roots = f.roots;
-      sequential = record {
+      kinds = f.kinds;
+      in_order = o;
+      sequential = λ i. record {
         ends = f.ends;
         intervals = λ ci k.
             f.named ci (λ e. let h : 1 ≡ 4 = ap (kind_at shape) (sym e) ∙ k in cc)
             (base_not_sequential shape (uow_of shape anchor) ci u b k)
-            (used-not-sequential shape new room ci o used k);
+            (used-not-sequential shape new room ci (o i) used k);
       };
     }
 
 pub puts-segment : (shape : Shape) (types : List SegDef) (old new : List (List ℕ)) (type : ℕ) (at : Pointer)
-    (s : Segment) → PutsSegment types old new type at s
-    → IsInOrder shape old → IsInOrder shape new → IsUsed (bytes_at old at.0) at.1
+    (s : Segment) → PutsSegment types old new type at s → IsUsed (bytes_at old at.0) at.1
     → Exchanges shape old new (at ∷ []) (at ∷ [])
-puts-segment shape types old new type at s p i o u = record {
-  in_order = o;
+puts-segment shape types old new type at s p u = record {
   stay = λ q t content n h. one-stays old new at q t content p.others (not_in at q n) h;
   none_comes = λ q t content n h. (n, one-comes old new at q t content p.others (not_in at q n) h);
   fresh = λ q c. inl c;
@@ -157,21 +159,22 @@ puts-segment shape types old new type at s p i o u = record {
       (record { segment = type; content = p.stands.content; used = p.stands.used });
   once = (none_in at, tt);
   roots = λ ci. ap (λ (h : Head). h.root) (put_keeps_head types old new type at s p ci);
-  sequential = put_keeps_sequential shape types old new type at s i u p;
+  kinds = put_keeps_kinds types old new type at s p;
+  in_order = λ o. put_keeps_order shape types old new type at s o u p;
+  sequential = λ o. put_keeps_sequential shape types old new type at s o u p;
 }
 
 -- ---- a place for a segment
 
-pub keeps-place : (shape : Shape) (types : List SegDef) (area : List (List ℕ)) (type : ℕ) (planned : Option Pointer)
-    (at : Pointer) → IsInOrder shape area → planned ≡ Some at → HaveRoom types area type planned
-    → TakesPlace shape types area area type planned at
-keeps-place shape types area type planned at o e h =
+pub keeps-place : (shape : Shape) (types : List SegDef) (area : List (List ℕ)) (anchor type : ℕ)
+    (planned : Option Pointer) (at : Pointer) → planned ≡ Some at → HaveRoom types area type planned
+    → TakesPlace shape types area area anchor type planned at
+keeps-place shape types area anchor type planned at e h =
     let P : Option Pointer → Type 0 = HaveRoom types area type in
     let r : HasRoom (bytes_at area at.0) at.1 (content_length types type) = subst P e h in
-    let Q : Option Pointer → Type 0 = λ p. TakesPlace shape types area area type p at in
+    let Q : Option Pointer → Type 0 = λ p. TakesPlace shape types area area anchor type p at in
     subst Q (sym e) (record {
       exchange = record {
-        in_order = o;
         stay = λ p t content n u. u;
         none_comes = λ p t content n u. (n, u);
         fresh = λ p c. inl c;
@@ -179,42 +182,54 @@ keeps-place shape types area type planned at o e h =
             (record { segment = r.segment; content = r.content; used = r.used });
         once = (none_in at, tt);
         roots = λ ci. refl;
-        sequential = record {
+        kinds = λ ci i. (i, refl);
+        in_order = λ o. o;
+        sequential = λ o. record {
           ends = record { begin = refl; end = refl; head = λ k x y. refl };
           intervals =
               λ ci k. refl;
         };
       };
       room = r;
+      own = inl refl;
+      owned = λ ci o. o;
     })
 
 pub finds-place : (shape : Shape) (types : List SegDef) (old new : List (List ℕ)) (type anchor n : ℕ)
     (planned : Option Pointer) (at : Pointer) → planned ≡ None → n ≡ content_length types type
-    → FindsRoom shape old new anchor n at → IsInOrder shape new → anchor < anchor_count shape
-    → TakesPlace shape types old new type planned at
-finds-place shape types old new type anchor n planned at e m f o b =
-    let Q : Option Pointer → Type 0 = λ p. TakesPlace shape types old new type p at in
+    → TakesRoom shape old new anchor n at → (IsInOrder shape old → IsInOrder shape new)
+    → IsOwnRoom shape new anchor at.0 → anchor < anchor_count shape
+    → TakesPlace shape types old new anchor type planned at
+finds-place shape types old new type anchor n planned at e m f o own b =
+    let Q : Option Pointer → Type 0 = λ p. TakesPlace shape types old new anchor type p at in
     let R : ℕ → Type 0 = λ n. HasRoom (bytes_at new at.0) at.1 n in
     subst Q (sym e) (record {
       exchange = finds-room shape old new anchor n at f o (uow_below shape anchor b)
           (base-some anchor shape.uows shape.base b);
       room = subst R m f.has_room;
+      own = inr own;
+      owned = λ ci i. room_keeps_own shape old new anchor n ci at (uow_below shape anchor b)
+          (base-some anchor shape.uows shape.base b) f i;
     })
 
-pub places-segment : (shape : Shape) (types : List SegDef) (old mid new : List (List ℕ)) (type : ℕ)
-    (planned : Option Pointer) (at : Pointer) (s : Segment) → TakesPlace shape types old mid type planned at
-    → PutsSegment types mid new type at s
-    → PlacesSegment shape types old new type planned at s
-places-segment shape types old mid new type planned at s t p =
-    let u : IsUsed (bytes_at mid at.0) at.1 = record {
+-- a segment that is put into the place
+pub put-there : (shape : Shape) (types : List SegDef) (old mid new : List (List ℕ)) (anchor type : ℕ)
+    (planned : Option Pointer) (at : Pointer) (s : Segment) → TakesPlace shape types old mid anchor type planned at
+    → PutsSegment types mid new type at s → Exchanges shape old new (and_place planned []) (at ∷ [])
+put-there shape types old mid new anchor type planned at s t p =
+    exchange-again shape old mid new (and_place planned []) (at ∷ []) (at ∷ []) t.exchange
+    (puts-segment shape types mid new type at s p (record {
       segment = t.room.segment;
       content = t.room.content;
       used =
           t.room.used;
-    } in
-    let o : IsInOrder shape new = put_keeps_order shape types mid new type at s t.exchange.in_order u p in
-    record {
-      exchange = exchange-again shape old mid new (and_place planned []) (at ∷ []) (at ∷ []) t.exchange
-          (puts-segment shape types mid new type at s p t.exchange.in_order o u);
-      has = p.stands;
-    }
+    }))
+
+-- one interval more at most
+pub takes-one : (shape : Shape) (old new : List (List ℕ)) (anchor n : ℕ) (room : Pointer)
+    → TakesRoom shape old new anchor n room → length new ≤ length old + 1
+takes-one shape old new anchor n room t = elim t.source as (λ _. length new ≤ length old + 1) [
+  | inl k ↦ omega (arith, k.same_number)
+  | inr j ↦ elim (same_or (first_free old) 0) as (λ _. length new ≤ length old + 1)
+      [ inl z ↦ omega (arith, (j.from_end z).2) | inr z ↦ omega (arith, (j.from_free z).2) ]
+]

@@ -1,8 +1,9 @@
 -- An area that is whole: its intervals, its overflow lists, and the elements of its anchors.
-use Rattle.std.specs.Prelude.{◌≡◌, ℕ, ◌<◌, List, Contains}
+use Rattle.std.specs.Prelude.{◌≡◌, ◌⊎◌, ℕ, ◌<◌, List, Contains}
 use Rattle.ci_space.specs.declared.intervals.Shape.{Shape}
 use Rattle.ci_space.specs.Interval.{IsUsed}
 use Rattle.ci_overflow.specs.Lists.{bytes_at, IsInOrder}
+use Rattle.ci_overflow.specs.Rooms.{IsOwnRoom}
 use Rattle.fp_model.specs.declared.definitions.SegDef.{SegDef}
 use Rattle.fp_model.specs.declared.database.Root.{Root}
 use Rattle.anchor_elements.specs.Elements.{Pointer}
@@ -42,3 +43,8 @@ pub record IsFormed (shape : Shape) (types : List SegDef) (area : List (List ℕ
   pub apart : (anchor other : ℕ) (at : Pointer) → anchor < anchor_count shape → other < anchor_count shape
       → Meets shape types area anchor at → Meets shape types area other at → anchor ≡ other
   pub each_met : (at : Pointer) → IsUsed (bytes_at area at.0) at.1 → IsMet shape types area at
+
+-- Each element of an anchor was one before, or it stands in the anchor's own unit of work.
+pub record NewAreOwn (shape : Shape) (types : List SegDef) (old new : List (List ℕ)) (anchor : ℕ) : Type 0 where
+  pub each : (at : Pointer) → Meets shape types new anchor at
+      → Meets shape types old anchor at ⊎ IsOwnRoom shape new anchor at.0

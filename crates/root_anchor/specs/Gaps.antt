@@ -4,7 +4,7 @@ use Rattle.ci_space.specs.declared.intervals.Shape.{Shape}
 use Rattle.ci_overflow.specs.Lists.{bytes_at, IsInOrder}
 use Rattle.ci_space.specs.Interval.{IsUsed}
 use Rattle.ci_overflow.specs.Places.{base_of, first_base, uow_of}
-use Rattle.ci_overflow.specs.Rooms.{FindsRoom, IsFirstPlace, IsOwnRoom}
+use Rattle.ci_overflow.specs.Rooms.{IsFirstPlace, IsOwnRoom}
 use Rattle.fp_model.specs.declared.definitions.SegDef.{SegDef}
 use Rattle.fp_model.specs.declared.database.Node.{Node}
 use Rattle.fp_model.specs.declared.database.Root.{Root}
@@ -172,13 +172,6 @@ pub record FitsGap (types : List SegDef) (gap : Gap) : Type 0 where
 
 -- ---- a segment that came
 
--- a new element has room for a segment of a type, and the area is in order
-pub record TakesNew (shape : Shape) (types : List SegDef) (old new : List (List ℕ)) (anchor type : ℕ) (at : Pointer) :
-    Type 0 where
-  pub finds : FindsRoom shape old new anchor (content_length types type) at
-  pub own : IsOwnRoom shape new anchor at.0
-  pub in_order : IsInOrder shape new
-
 -- it stands in a new element, and only control, the first base interval of the unit of work and the interval of the
 -- element change
 pub record Adds (shape : Shape) (types : List SegDef) (old new : List (List ℕ)) (anchor : ℕ) (added : Added)
@@ -187,7 +180,7 @@ pub record Adds (shape : Shape) (types : List SegDef) (old new : List (List ℕ)
   pub has : HasSegment types new added.segment at (says_added types added)
   pub named : (ci : ℕ) → ci ≢ 0 → ci ≢ first_base shape (uow_of shape anchor) → ci ≢ at.0
       → bytes_at new ci ≡ bytes_at old ci
-  pub place : IsFirstPlace shape old anchor (content_length types added.segment) at.0
+  pub place : IsInOrder shape old → IsFirstPlace shape old anchor (content_length types added.segment) at.0
   pub own : IsOwnRoom shape new anchor at.0
   pub one_more : length new ≤ length old + 1
 

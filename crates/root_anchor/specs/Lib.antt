@@ -1,5 +1,6 @@
 pub mod Chains
 pub mod Damage
+pub mod Faults
 pub mod Formed
 pub mod Roots
 pub mod Newest
@@ -11,3 +12,4 @@ pub mod Rebuilding
 pub mod Walking
 pub mod Finding
 pub mod Gaps
+pub mod Keeping

@@ -2,15 +2,17 @@
 use Rattle.std.specs.Prelude.{◌≡◌, ◌⊎◌, ℕ, ◌<◌, List, [], ◌∷◌, ◌++◌, length, map, flat_map, Contains, false, slice_get, Option, Some, None, IfSome, ⊤}
 use Rattle.ci_space.specs.declared.intervals.Shape.{Shape}
 use Rattle.ci_space.specs.Interval.{HasUsed, IsUsed, HasRoom}
-use Rattle.ci_overflow.specs.Lists.{bytes_at, IsInOrder}
-use Rattle.ci_overflow.specs.Rooms.{KeepsRoots}
+use Rattle.ci_overflow.specs.Lists.{bytes_at, IsInOrder, IsInPlace}
+use Rattle.ci_overflow.specs.Places.{base_of}
+use Rattle.ci_overflow.specs.Rooms.{IsOwnRoom, KeepsKinds, KeepsRoots}
+use Rattle.ci_space.specs.Head.{head_of}
 use Rattle.fp_model.specs.declared.definitions.SegDef.{SegDef}
 use Rattle.fp_model.specs.declared.database.Node.{Node}
 use Rattle.fp_model.specs.declared.database.Node.TheOpen.{Node-F}
 use Rattle.fp_model.specs.declared.database.Node.TheFolds.{fold-Node}
 use Rattle.fp_model.specs.declared.database.Root.{Root}
 use Rattle.fp_model.specs.Order.{child_types}
-use Rattle.anchor_elements.specs.Elements.{Pointer, Segment, HasSegment, content_length}
+use Rattle.anchor_elements.specs.Elements.{Pointer, HasSegment, content_length}
 use Rattle.root_anchor.specs.Chains.{AreRows, AreRoots}
 use Rattle.root_anchor.specs.Stored.{KeepsSequential}
 use Rattle.root_anchor.specs.Standing.{places_of}
@@ -24,9 +26,9 @@ AreApart [] = ⊤
 AreApart (at ∷ rest) = (¬ Contains rest at) × AreApart rest
 
 -- The elements `had` give way to the elements `has`: every other used element stays, and none comes; an element that
--- comes was none before. Root anchor points and the sequential part stay.
+-- comes was none before. Root anchor points stay, and each interval is of its kind still. An area that was in order is
+-- so again, and its sequential part stays.
 pub record Exchanges (shape : Shape) (old new : List (List ℕ)) (had has : List Pointer) : Type 0 where
-  pub in_order : IsInOrder shape new
   pub stay : (at : Pointer) (type : ℕ) (content : List ℕ) → ¬ Contains had at
       → HasUsed (bytes_at old at.0) at.1 type content → HasUsed (bytes_at new at.0) at.1 type content
   pub none_comes : (at : Pointer) (type : ℕ) (content : List ℕ) → ¬ Contains has at
@@ -36,7 +38,9 @@ pub record Exchanges (shape : Shape) (old new : List (List ℕ)) (had has : List
   pub used : (at : Pointer) → Contains has at → IsUsed (bytes_at new at.0) at.1
   pub once : AreApart has
   pub roots : KeepsRoots old new
-  pub sequential : KeepsSequential shape old new
+  pub kinds : KeepsKinds old new
+  pub in_order : IsInOrder shape old → IsInOrder shape new
+  pub sequential : IsInOrder shape old → KeepsSequential shape old new
 
 -- ---- places that are reserved for segments
 
@@ -59,6 +63,15 @@ HaveRoom types area type planned = IfSome planned (λ at. HasRoom (bytes_at area
 abbrev pub HaveRooms : List SegDef → List (List ℕ) → List Planned → Type 0
 HaveRooms types area [] = ⊤
 HaveRooms types area (p ∷ plan) = HaveRoom types area p.segment p.at × HaveRooms types area plan
+
+-- each segment of a plan has a place
+pub record IsPlaced (p : Planned) : Type 0 where
+  pub place : Pointer
+  pub is_place : p.at ≡ Some place
+
+abbrev pub ArePlaced : List Planned → Type 0
+ArePlaced [] = ⊤
+ArePlaced (p ∷ plan) = IsPlaced p × ArePlaced plan
 
 -- places reserved, each for one segment
 pub record AreReserved (types : List SegDef) (area : List (List ℕ)) (plan : List Planned) : Type 0 where
@@ -119,45 +132,56 @@ pub record IsDirect (types : List SegDef) (type : ℕ) : Type 0 where
   pub defined : type < length types
   pub direct : IfSome (slice_get types type) (λ def. def.sequential ≡ false)
 
--- In an area in order a plan ends in places reserved for segments of these types.
-pub record IsPlanned (shape : Shape) (types : List SegDef) (area : List (List ℕ)) (plan before used : List Planned)
-    (kinds : List ℕ) : Type 0 where
-  pub in_order : IsInOrder shape area
+-- A plan ends in places reserved for segments of these types, one for each.
+pub record IsPlanned (types : List SegDef) (area : List (List ℕ)) (plan before used : List Planned) (kinds : List ℕ) :
+    Type 0 where
   pub parts : plan ≡ before ++ used
   pub kinds_are : types_of used ≡ kinds
   pub are_reserved : AreReserved types area used
+  pub placed : ArePlaced used
 
--- the place that was planned is given, or one that is new, with room for the type
-pub record TakesPlace (shape : Shape) (types : List SegDef) (old new : List (List ℕ)) (type : ℕ)
+-- The place that was planned is given, or one that is new, with room for the type. A new one is in the anchor's own unit
+-- of work, and those that were there are so still.
+pub record TakesPlace (shape : Shape) (types : List SegDef) (old new : List (List ℕ)) (anchor type : ℕ)
     (planned : Option Pointer) (at : Pointer) : Type 0 where
   pub exchange : Exchanges shape old new (and_place planned []) (at ∷ [])
   pub room : HasRoom (bytes_at new at.0) at.1 (content_length types type)
+  pub own : (planned ≡ Some at) ⊎ IsOwnRoom shape new anchor at.0
+  pub owned : (ci : ℕ) → IsOwnRoom shape old anchor ci → IsOwnRoom shape new anchor ci
+
+-- each of these elements was one of those, or is in the anchor's own unit of work
+abbrev pub HadOrOwn : Shape → List (List ℕ) → ℕ → List Pointer → List Pointer → Type 0
+HadOrOwn shape area anchor had has =
+    (at : Pointer) → Contains has at → Contains had at ⊎ IsOwnRoom shape area anchor at.0
 
 -- each segment of a plan has a place: the one that was planned, or a new one, with room for its type
-pub record TakesPlaces (shape : Shape) (types : List SegDef) (old new : List (List ℕ)) (plan taken : List Planned) :
-    Type 0 where
+pub record TakesPlaces (shape : Shape) (types : List SegDef) (old new : List (List ℕ)) (anchor : ℕ)
+    (plan taken : List Planned) : Type 0 where
   pub exchange : Exchanges shape old new (reserved plan) (reserved taken)
   pub kinds : types_of taken ≡ types_of plan
   pub rooms : HaveRooms types new taken
+  pub placed : ArePlaced taken
+  pub own : HadOrOwn shape new anchor (reserved plan) (reserved taken)
 
 -- so it is for the last segments of a plan; these are left
-pub record IsTaking (shape : Shape) (types : List SegDef) (old now : List (List ℕ)) (plan left taken : List Planned) :
-    Type 0 where
+pub record IsTaking (shape : Shape) (types : List SegDef) (old now : List (List ℕ)) (anchor : ℕ)
+    (plan left taken : List Planned) : Type 0 where
   pub done : List Planned
   pub parts : plan ≡ left ++ done
-  pub takes : TakesPlaces shape types old now done taken
+  pub takes : TakesPlaces shape types old now anchor done taken
 
--- a segment is put into the place that was planned, or into a new one
-pub record PlacesSegment (shape : Shape) (types : List SegDef) (old new : List (List ℕ)) (type : ℕ)
-    (planned : Option Pointer) (at : Pointer) (segment : Segment) : Type 0 where
-  pub exchange : Exchanges shape old new (and_place planned []) (at ∷ [])
-  pub has : HasSegment types new type at segment
+-- these places are the elements, one by one; every interval keeps its head, and none is added
+pub record StandIn (old new : List (List ℕ)) (places elements : List Pointer) : Type 0 where
+  pub are : elements ≡ places
+  pub heads : (ci : ℕ) → head_of (bytes_at new ci) ≡ head_of (bytes_at old ci)
+  pub same_number : length new ≡ length old
 
--- rows are built in the places that were reserved for them, and in new ones
+-- rows are built in the places that were reserved for them
 pub record BuildsRows (shape : Shape) (types : List SegDef) (old new : List (List ℕ)) (used : List Planned)
     (kinds : List ℕ) (firsts : List Pointer) (rows : List (List Node)) : Type 0 where
   pub elements : List Pointer
   pub exchange : Exchanges shape old new (reserved used) elements
+  pub stand_in : StandIn old new (reserved used) elements
   pub stand : RowsStand types new kinds firsts rows elements
 
 -- the same for roots
@@ -165,6 +189,7 @@ pub record BuildsRoots (shape : Shape) (types : List SegDef) (old new : List (Li
     (first : Pointer) (roots : List Root) : Type 0 where
   pub elements : List Pointer
   pub exchange : Exchanges shape old new (reserved used) elements
+  pub stand_in : StandIn old new (reserved used) elements
   pub stand : RootsStand types new first roots elements
 
 -- the same for one segment and all below it
@@ -173,8 +198,18 @@ pub record BuildsSegment (shape : Shape) (types : List SegDef) (old new : List (
   pub firsts : List Pointer
   pub below : List Pointer
   pub exchange : Exchanges shape old new (reserved used) (at ∷ below)
+  pub stand_in : StandIn old new (reserved used) (at ∷ below)
   pub has : HasSegment types new type at (record { next = next; serial = serial; firsts = firsts; bytes = bytes })
   pub stand : RowsStand types new (child_types types type) firsts rows below
+
+-- roots are built in the places of a plan, and those that it lacks are taken before
+pub record BuildsPlan (shape : Shape) (types : List SegDef) (old new : List (List ℕ)) (anchor : ℕ) (plan : List Planned)
+    (first : Pointer) (roots : List Root) : Type 0 where
+  pub elements : List Pointer
+  pub exchange : Exchanges shape old new (reserved plan) elements
+  pub own : HadOrOwn shape new anchor (reserved plan) elements
+  pub all_kept : ArePlaced plan → elements ≡ reserved plan
+  pub stand : RootsStand types new first roots elements
 
 -- ---- a plan
 
@@ -213,11 +248,11 @@ pub record AreGivable (area : List (List ℕ)) (places : List Pointer) : Type 0 
   pub used : (at : Pointer) → Contains places at → IsUsed (bytes_at area at.0) at.1
   pub once : AreApart places
 
--- An area in order, a plan for these roots, and the rest of what their anchor had: the places of both are used
--- elements, each once, and those of the plan have room.
-pub record IsRebuildable (shape : Shape) (types : List SegDef) (area : List (List ℕ)) (plan : List Planned)
+-- An anchor whose base interval is in its place, a plan for these roots, and the rest of what the anchor had: the places
+-- of both are used elements, each once, and those of the plan have room.
+pub record IsRebuildable (shape : Shape) (types : List SegDef) (area : List (List ℕ)) (anchor : ℕ) (plan : List Planned)
     (rest : List Standing) (roots : List Root) : Type 0 where
-  pub in_order : IsInOrder shape area
+  pub base : IsInPlace shape area (base_of shape anchor)
   pub kinds_are : types_of plan ≡ types_of_roots types roots
   pub rooms : HaveRooms types area plan
   pub used : (at : Pointer) → Contains (places_of rest) at → IsUsed (bytes_at area at.0) at.1
@@ -230,5 +265,6 @@ pub record Rebuilds (shape : Shape) (types : List SegDef) (old new : List (List 
   pub first : Pointer
   pub elements : List Pointer
   pub exchange : Exchanges shape old middle (reserved plan ++ places_of rest) elements
+  pub own : HadOrOwn shape middle anchor (reserved plan ++ places_of rest) elements
   pub stand : RootsStand types middle first roots elements
   pub put : PutsRoot shape middle new anchor first

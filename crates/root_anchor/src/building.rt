@@ -1,23 +1,22 @@
-//! An anchor's segments are built anew, in the places that a plan has for them and in new ones.
+//! An anchor's segments are built anew, in the places that a plan has for them.
 //!
 //! A row is built from its last segment to its first, and what is below a segment before the segment itself: so each
 //! pointer is known when it is written. The plan is in hierarchical order, and is used up from its end.
 
 ghost use Rattle.std.specs.Prelude.{◌≡◌, ◌≢◌, ◌<◌, ◌≤◌, ◌++◌, ◌∷◌, [], ℕ, List, Err, IfOk, IsErrOf, IsErr, length, map, replicate, true, false, Some};
 ghost use Rattle.ci_space.specs.Calls.{Rose, GoesOn};
-ghost use Rattle.ci_overflow.specs.Lists.{IsInOrder};
 ghost use Rattle.fp_model.specs.Order.{child_types};
-ghost use Rattle.anchor_elements.specs.Elements.{content_length, has_serial, nothing, segment_length};
-ghost use Rattle.root_anchor.specs.Chains.{anchor_count, newest};
+ghost use Rattle.anchor_elements.specs.Elements.{Pointer as PointerOf, has_serial, nothing, segment_length};
+ghost use Rattle.root_anchor.specs.Chains.{newest};
 ghost use Rattle.anchor_elements.specs.Elements.{AreTypes};
 ghost use Rattle.root_anchor.specs.Stored.{are_storable, is_newest, row_has_form, rows_have_form};
-ghost use Rattle.root_anchor.specs.Rebuilding.{HaveRoom, TakesPlace, PlacesSegment, IsDirect, IsPlanned, BuildsSegment, BuildsRows, BuildsRoots, types_of_row, types_of_rows, types_of_roots, types_of_segment};
+ghost use Rattle.root_anchor.specs.Rebuilding.{IsDirect, IsPlanned, BuildsSegment, BuildsRows, BuildsRoots, types_of_row, types_of_rows, types_of_roots, types_of_segment};
 ghost use Rattle.root_anchor.specs.declared.plan.Planned.{Planned as PlannedOf};
 ghost use Rattle.fp_model.specs.declared.definitions.SegDef.{SegDef as SegDefOf};
 
 use crate::plan::Planned;
-use anchor_elements::{AnchorFault, Pointer, Saying, content_length, is_child_of, put_segment};
-use ci_overflow::{SpaceFault, find_room};
+use anchor_elements::{AnchorFault, Pointer, Saying, is_child_of, put_segment};
+use ci_overflow::SpaceFault;
 use ci_space::{Intervals, Shape};
 use fp_model::{Bytes, List, Node, Root, SegDef, SeqItem};
 use std::alloc::Global;
@@ -44,36 +43,6 @@ pub(crate) fn fault_of(fault: SpaceFault) -> AnchorFault
     }
 }
 
-/// The place that is planned, or a new element with room for a segment of the type.
-fn place_for<I: Intervals>(
-    i: &mut I,
-    home: &Home<'_>,
-    segment: u8,
-    planned: Option<Pointer>,
-) -> Result<Pointer, AnchorFault>
-    requires anchor { home.now.anchor < anchor_count home.now.shape.now }
-    requires types { AreTypes (I.size i.old) home.now.segments.now }
-    requires direct { IsDirect home.now.segments.now segment }
-    ensures place { I.told i.old → IsInOrder home.now.shape.now (I.intervals i.old)
-        → HaveRoom home.now.segments.now (I.intervals i.old) segment planned
-        → IfOk result (λ at. TakesPlace home.now.shape.now home.now.segments.now (I.intervals i.old) (I.intervals i.new)
-        segment planned at) }
-    ensures sound { I.told i.old → IsInOrder home.now.shape.now (I.intervals i.old) → (ci : ℕ)
-        → result ≢ Err (AnchorFault.Damaged ci) }
-    ensures failed { IsErrOf result AnchorFault.Failed → Rose (I.faults i.old) (I.faults i.new) }
-    ensures number { I.number i.old ≤ I.number i.new }
-    ensures goes_on { GoesOn I.told I.size I.faults I.keeps i.old i.new }
-{
-    if let Some(at) = planned {
-        return Ok(at);
-    }
-    let length = content_length(home.segments, segment) as u16;
-    match find_room(i, home.shape, home.anchor, length) {
-        Ok(at) => Ok(at),
-        Err(fault) => Err(fault_of(fault)),
-    }
-}
-
 /// What a segment that is built says, but for its first children.
 #[derive(Clone, Copy)]
 struct Itself<'a> {
@@ -84,48 +53,18 @@ struct Itself<'a> {
     bytes: &'a [u8],
 }
 
-/// Puts a segment into the place that is planned, or into a new element.
-fn place_segment<I: Intervals>(
-    i: &mut I,
-    home: &Home<'_>,
-    segment: u8,
-    planned: Option<Pointer>,
-    saying: Saying<'_>,
-) -> Result<Pointer, AnchorFault>
-    requires anchor { home.now.anchor < anchor_count home.now.shape.now }
-    requires types { AreTypes (I.size i.old) home.now.segments.now }
-    requires direct { IsDirect home.now.segments.now segment }
-    requires firsts { length saying.firsts.now ≡ length (child_types home.now.segments.now segment) }
-    requires bytes { length saying.bytes.now ≡ segment_length home.now.segments.now segment }
-    requires serial { has_serial home.now.segments.now segment ≡ false → saying.serial ≡ 0 }
-    ensures placed { I.told i.old → IsInOrder home.now.shape.now (I.intervals i.old)
-        → HaveRoom home.now.segments.now (I.intervals i.old) segment planned
-        → IfOk result (λ at. PlacesSegment home.now.shape.now home.now.segments.now (I.intervals i.old)
-        (I.intervals i.new) segment planned at (record {
-          next = saying.entry.next;
-          serial = saying.entry.serial;
-          firsts = saying.entry.firsts.now;
-          bytes =
-              saying.entry.bytes.now;
-        })) }
-    ensures sound { I.told i.old → IsInOrder home.now.shape.now (I.intervals i.old)
-        → HaveRoom home.now.segments.now (I.intervals i.old) segment planned → (ci : ℕ)
-        → result ≢ Err (AnchorFault.Damaged ci) }
-    ensures failed { IsErrOf result AnchorFault.Failed → Rose (I.faults i.old) (I.faults i.new) }
-    ensures number { I.number i.old ≤ I.number i.new }
-    ensures goes_on { GoesOn I.told I.size I.faults I.keeps i.old i.new }
-{
-    let at = place_for(i, home, segment, planned)?;
-    put_segment(i, home.segments, segment, at, saying)?;
-    Ok(at)
-}
-
-/// Takes the last place of a plan.
-fn next_place(plan: &mut VecDeque<Planned>) -> Option<Pointer>
+/// Takes the last place of a plan: the pointer to nothing where it has none.
+fn next_place(plan: &mut VecDeque<Planned>) -> Pointer
     ensures { (before : List PlannedOf) (p : PlannedOf) → plan.old.items ≡ before ++ p ∷ [] → (plan.new.items ≡ before)
-        × (result ≡ p.at) }
+        × ((at : PointerOf) → p.at ≡ Some at → result ≡ at) }
 {
-    plan.pop_back()?.at
+    let Some(planned) = plan.pop_back() else {
+        return (0, 0);
+    };
+    match planned.at {
+        Some(at) => at,
+        None => (0, 0),
+    }
 }
 
 /// The direct child types of a type, in order of definition.
@@ -170,7 +109,6 @@ fn build_segment<I: Intervals>(
     itself: &Itself<'_>,
     children: &List<List<Node>>,
 ) -> Result<Pointer, AnchorFault>
-    requires anchor { home.now.anchor < anchor_count home.now.shape.now }
     requires types { AreTypes (I.size i.old) home.now.segments.now }
     requires direct { IsDirect home.now.segments.now segment }
     requires bytes { length itself.now.bytes.now ≡ segment_length home.now.segments.now segment }
@@ -178,13 +116,13 @@ fn build_segment<I: Intervals>(
     requires rows { rows_have_form home.now.segments.now (child_types home.now.segments.now segment) children.now
         ≡ true }
     ensures built { I.told i.old → (before used : List PlannedOf)
-        → IsPlanned home.now.shape.now home.now.segments.now (I.intervals i.old) plan.old.items before used
+        → IsPlanned home.now.segments.now (I.intervals i.old) plan.old.items before used
         (types_of_segment home.now.segments.now segment children.now)
         → IfOk result (λ at. (plan.new.items ≡ before)
         × BuildsSegment home.now.shape.now home.now.segments.now (I.intervals i.old) (I.intervals i.new) used
         segment at itself.now.next itself.now.serial itself.now.bytes.now children.now) }
     ensures sound { I.told i.old → (before used : List PlannedOf)
-        → IsPlanned home.now.shape.now home.now.segments.now (I.intervals i.old) plan.old.items before used
+        → IsPlanned home.now.segments.now (I.intervals i.old) plan.old.items before used
         (types_of_segment home.now.segments.now segment children.now)
         → (ci : ℕ) → result ≢ Err (AnchorFault.Damaged ci) }
     ensures failed { IsErrOf result AnchorFault.Failed → Rose (I.faults i.old) (I.faults i.new) }
@@ -192,14 +130,15 @@ fn build_segment<I: Intervals>(
     ensures goes_on { GoesOn I.told I.size I.faults I.keeps i.old i.new }
 {
     let firsts = build_rows(alloc, i, home, plan, segment, children)?;
-    let planned = next_place(plan);
+    let at = next_place(plan);
     let saying = Saying {
         next: itself.next,
         serial: itself.serial,
         firsts: firsts.as_slice(),
         bytes: itself.bytes,
     };
-    place_segment(i, home, segment, planned, saying)
+    put_segment(i, home.segments, segment, at, saying)?;
+    Ok(at)
 }
 
 /// Builds a row of segments of a type with all below them, and gives the pointer to the first.
@@ -212,19 +151,18 @@ fn build_row<I: Intervals>(
     segment: u8,
     row: &List<Node>,
 ) -> Result<Pointer, AnchorFault>
-    requires anchor { home.now.anchor < anchor_count home.now.shape.now }
     requires types { AreTypes (I.size i.old) home.now.segments.now }
     requires direct { IsDirect home.now.segments.now segment }
     requires child { has_serial home.now.segments.now segment ≡ false }
     requires row { row_has_form home.now.segments.now segment row.now ≡ true }
     ensures built { I.told i.old → (before used : List PlannedOf)
-        → IsPlanned home.now.shape.now home.now.segments.now (I.intervals i.old) plan.old.items before used
+        → IsPlanned home.now.segments.now (I.intervals i.old) plan.old.items before used
         (types_of_row home.now.segments.now segment row.now)
         → IfOk result (λ first. (plan.new.items ≡ before)
         × BuildsRows home.now.shape.now home.now.segments.now (I.intervals i.old) (I.intervals i.new) used
         (segment ∷ []) (first ∷ []) (row.now ∷ [])) }
     ensures sound { I.told i.old → (before used : List PlannedOf)
-        → IsPlanned home.now.shape.now home.now.segments.now (I.intervals i.old) plan.old.items before used
+        → IsPlanned home.now.segments.now (I.intervals i.old) plan.old.items before used
         (types_of_row home.now.segments.now segment row.now)
         → (ci : ℕ) → result ≢ Err (AnchorFault.Damaged ci) }
     ensures failed { IsErrOf result AnchorFault.Failed → Rose (I.faults i.old) (I.faults i.new) }
@@ -256,18 +194,17 @@ fn build_rows<I: Intervals>(
     segment: u8,
     rows: &List<List<Node>>,
 ) -> Result<Vec<Pointer>, AnchorFault>
-    requires anchor { home.now.anchor < anchor_count home.now.shape.now }
     requires types { AreTypes (I.size i.old) home.now.segments.now }
     requires rows { rows_have_form home.now.segments.now (child_types home.now.segments.now segment) rows.now ≡ true }
     ensures count { IfOk result (λ firsts. length firsts.items ≡ length (child_types home.now.segments.now segment)) }
     ensures built { I.told i.old → (before used : List PlannedOf)
-        → IsPlanned home.now.shape.now home.now.segments.now (I.intervals i.old) plan.old.items before used
+        → IsPlanned home.now.segments.now (I.intervals i.old) plan.old.items before used
         (types_of_rows home.now.segments.now (child_types home.now.segments.now segment) rows.now)
         → IfOk result (λ firsts. (plan.new.items ≡ before)
         × BuildsRows home.now.shape.now home.now.segments.now (I.intervals i.old) (I.intervals i.new) used
         (child_types home.now.segments.now segment) firsts.items rows.now) }
     ensures sound { I.told i.old → (before used : List PlannedOf)
-        → IsPlanned home.now.shape.now home.now.segments.now (I.intervals i.old) plan.old.items before used
+        → IsPlanned home.now.segments.now (I.intervals i.old) plan.old.items before used
         (types_of_rows home.now.segments.now (child_types home.now.segments.now segment) rows.now)
         → (ci : ℕ) → result ≢ Err (AnchorFault.Damaged ci) }
     ensures failed { IsErrOf result AnchorFault.Failed → Rose (I.faults i.old) (I.faults i.new) }
@@ -303,17 +240,16 @@ pub(crate) fn build_roots<I: Intervals>(
     plan: &mut VecDeque<Planned>,
     roots: &List<Root>,
 ) -> Result<Pointer, AnchorFault>
-    requires anchor { home.now.anchor < anchor_count home.now.shape.now }
     requires types { AreTypes (I.size i.old) home.now.segments.now }
     requires roots { are_storable home.now.segments.now roots.now ≡ true }
     ensures built { I.told i.old → (before used : List PlannedOf)
-        → IsPlanned home.now.shape.now home.now.segments.now (I.intervals i.old) plan.old.items before used
+        → IsPlanned home.now.segments.now (I.intervals i.old) plan.old.items before used
         (types_of_roots home.now.segments.now roots.now)
         → IfOk result (λ first. (plan.new.items ≡ before)
         × BuildsRoots home.now.shape.now home.now.segments.now (I.intervals i.old) (I.intervals i.new) used first
         roots.now) }
     ensures sound { I.told i.old → (before used : List PlannedOf)
-        → IsPlanned home.now.shape.now home.now.segments.now (I.intervals i.old) plan.old.items before used
+        → IsPlanned home.now.segments.now (I.intervals i.old) plan.old.items before used
         (types_of_roots home.now.segments.now roots.now)
         → (ci : ℕ) → result ≢ Err (AnchorFault.Damaged ci) }
     ensures failed { IsErrOf result AnchorFault.Failed → Rose (I.faults i.old) (I.faults i.new) }

@@ -4,8 +4,11 @@
 
 ghost use Rattle.std.specs.Prelude.{◌≡◌, ◌≢◌, ◌↔◌, ◌<◌, ◌≤◌, [], ℕ, List, Err, IfOk, OnOk, IsErrOf, IsTrue, true, false};
 ghost use Rattle.ci_space.specs.Calls.{Rose, GoesOn};
-ghost use Rattle.ci_overflow.specs.Lists.{IsInOrder};
-ghost use Rattle.anchor_elements.specs.Elements.{AreTypes, HasSegment};
+ghost use Rattle.ci_overflow.specs.Faults.{IsAtFault};
+ghost use Rattle.ci_overflow.specs.Lists.{IsInOrder, IsInPlace};
+ghost use Rattle.ci_overflow.specs.Places.{base_of};
+ghost use Rattle.ci_overflow.specs.Rooms.{TakesOne};
+ghost use Rattle.anchor_elements.specs.Elements.{AreTypes, HasSegment, content_length};
 ghost use Rattle.anchor_elements.specs.Puts.{PutsSegment};
 ghost use Rattle.anchor_elements.specs.Reading.{segment_of};
 ghost use Rattle.root_changes.specs.Gaining.{RootsGain};
@@ -13,7 +16,7 @@ ghost use Rattle.root_changes.specs.Telling.{TellsRootGain};
 ghost use Rattle.root_anchor.specs.Chains.{anchor_count, root_of};
 ghost use Rattle.root_anchor.specs.Damage.{ChainFails};
 ghost use Rattle.root_anchor.specs.Formed.{HasChain, HasRoots};
-ghost use Rattle.root_anchor.specs.Gaps.{Adds, AddsBehind, AddsInFront, AddsOne, FewChange, FitsAdded, FitsHolder, FitsGap, Refills, SegmentsStay, TakesNew, links_to};
+ghost use Rattle.root_anchor.specs.Gaps.{Adds, AddsBehind, AddsInFront, AddsOne, FewChange, FitsAdded, FitsHolder, FitsGap, Refills, SegmentsStay, links_to};
 ghost use Rattle.root_anchor.specs.Rebuilding.{IsDirect, Rebuilds};
 ghost use Rattle.root_anchor.specs.Standing.{AreStanding};
 ghost use Rattle.root_anchor.specs.Stored.{are_storable, is_storable};
@@ -40,11 +43,10 @@ fn take_element<I: Intervals>(
     requires anchor { home.now.anchor < anchor_count home.now.shape.now }
     requires types { AreTypes (I.size i.old) home.now.segments.now }
     requires direct { IsDirect home.now.segments.now segment }
-    ensures takes { I.told i.old → IsInOrder home.now.shape.now (I.intervals i.old)
-        → IfOk result (TakesNew home.now.shape.now home.now.segments.now (I.intervals i.old) (I.intervals i.new)
-        home.now.anchor segment) }
-    ensures sound { I.told i.old → IsInOrder home.now.shape.now (I.intervals i.old) → (ci : ℕ)
-        → result ≢ Err (AnchorFault.Damaged ci) }
+    ensures takes { I.told i.old → IfOk result (TakesOne home.now.shape.now (I.intervals i.old) (I.intervals i.new)
+        home.now.anchor (content_length home.now.segments.now segment)) }
+    ensures lists { I.told i.old → (ci : ℕ) → result ≡ Err (AnchorFault.Damaged ci)
+        → IsAtFault home.now.shape.now (I.intervals i.old) ci }
     ensures failed { IsErrOf result AnchorFault.Failed → Rose (I.faults i.old) (I.faults i.new) }
     ensures number { I.number i.old ≤ I.number i.new }
     ensures goes_on { GoesOn I.told I.size I.faults I.keeps i.old i.new }
@@ -66,11 +68,10 @@ fn add_segment<I: Intervals>(
     requires anchor { home.now.anchor < anchor_count home.now.shape.now }
     requires types { AreTypes (I.size i.old) home.now.segments.now }
     requires fits { FitsAdded home.now.segments.now added }
-    ensures adds { I.told i.old → IsInOrder home.now.shape.now (I.intervals i.old)
-        → IfOk result (Adds home.now.shape.now home.now.segments.now (I.intervals i.old) (I.intervals i.new)
-        home.now.anchor added.entry) }
-    ensures sound { I.told i.old → IsInOrder home.now.shape.now (I.intervals i.old) → (ci : ℕ)
-        → result ≢ Err (AnchorFault.Damaged ci) }
+    ensures adds { I.told i.old → IfOk result (Adds home.now.shape.now home.now.segments.now (I.intervals i.old)
+        (I.intervals i.new) home.now.anchor added.entry) }
+    ensures lists { I.told i.old → (ci : ℕ) → result ≡ Err (AnchorFault.Damaged ci)
+        → IsAtFault home.now.shape.now (I.intervals i.old) ci }
     ensures failed { IsErrOf result AnchorFault.Failed → Rose (I.faults i.old) (I.faults i.new) }
     ensures number { I.number i.old ≤ I.number i.new }
     ensures goes_on { GoesOn I.told I.size I.faults I.keeps i.old i.new }
@@ -152,14 +153,15 @@ fn fill<I: Intervals>(
     requires anchor { home.now.anchor < anchor_count home.now.shape.now }
     requires types { AreTypes (I.size i.old) home.now.segments.now }
     requires fits { FitsGap home.now.segments.now gap.now }
-    ensures filled { I.told i.old → IsInOrder home.now.shape.now (I.intervals i.old)
+    ensures filled { I.told i.old
         → HasSegment home.now.segments.now (I.intervals i.old) gap.now.holder.segment gap.now.holder.at
         (segment_of gap.now.holder.said)
         → OnOk result (AddsBehind home.now.shape.now home.now.segments.now (I.intervals i.old) (I.intervals i.new)
         home.now.anchor gap.now) }
-    ensures sound { I.told i.old → IsInOrder home.now.shape.now (I.intervals i.old)
+    ensures lists { I.told i.old
         → HasSegment home.now.segments.now (I.intervals i.old) gap.now.holder.segment gap.now.holder.at
-        (segment_of gap.now.holder.said) → (ci : ℕ) → result ≢ Err (AnchorFault.Damaged ci) }
+        (segment_of gap.now.holder.said) → (ci : ℕ) → result ≡ Err (AnchorFault.Damaged ci)
+        → IsAtFault home.now.shape.now (I.intervals i.old) ci }
     ensures failed { IsErrOf result AnchorFault.Failed → Rose (I.faults i.old) (I.faults i.new) }
     ensures number { I.number i.old ≤ I.number i.new }
     ensures goes_on { GoesOn I.told I.size I.faults I.keeps i.old i.new }
@@ -179,11 +181,13 @@ fn add_in_front<I: Intervals>(
     requires anchor { home.now.anchor < anchor_count home.now.shape.now }
     requires types { AreTypes (I.size i.old) home.now.segments.now }
     requires root { is_storable home.now.segments.now root.now ≡ true }
-    ensures filled { I.told i.old → IsInOrder home.now.shape.now (I.intervals i.old)
+    ensures filled { I.told i.old → IsInPlace home.now.shape.now (I.intervals i.old)
+        (base_of home.now.shape.now home.now.anchor)
         → OnOk result (AddsInFront home.now.shape.now home.now.segments.now (I.intervals i.old) (I.intervals i.new)
         home.now.anchor first root.now) }
-    ensures sound { I.told i.old → IsInOrder home.now.shape.now (I.intervals i.old) → (ci : ℕ)
-        → result ≢ Err (AnchorFault.Damaged ci) }
+    ensures lists { I.told i.old → IsInPlace home.now.shape.now (I.intervals i.old)
+        (base_of home.now.shape.now home.now.anchor) → (ci : ℕ) → result ≡ Err (AnchorFault.Damaged ci)
+        → IsAtFault home.now.shape.now (I.intervals i.old) ci }
     ensures failed { IsErrOf result AnchorFault.Failed → Rose (I.faults i.old) (I.faults i.new) }
     ensures number { I.number i.old ≤ I.number i.new }
     ensures goes_on { GoesOn I.told I.size I.faults I.keeps i.old i.new }
@@ -239,10 +243,9 @@ fn add_behind<I: Intervals>(
         (I.intervals i.new) home.now.anchor) }
     ensures some { gain ≢ Gain.Not → gain ≢ Gain.New 0 → IfOk result (λ added. added ≡ true) }
     ensures same { I.told i.old → IfOk result (λ added. added ≡ false → I.intervals i.new ≡ I.intervals i.old) }
-    ensures sound { I.told i.old → IsInOrder home.now.shape.now (I.intervals i.old)
-        → first ≡ root_of home.now.shape.now (I.intervals i.old) home.now.anchor
+    ensures lists { I.told i.old → first ≡ root_of home.now.shape.now (I.intervals i.old) home.now.anchor
         → HasRoots home.now.shape.now home.now.segments.now (I.intervals i.old) home.now.anchor roots.now → (ci : ℕ)
-        → result ≢ Err (AnchorFault.Damaged ci) }
+        → result ≡ Err (AnchorFault.Damaged ci) → IsAtFault home.now.shape.now (I.intervals i.old) ci }
     ensures failed { IsErrOf result AnchorFault.Failed → Rose (I.faults i.old) (I.faults i.new) }
     ensures number { I.number i.old ≤ I.number i.new }
     ensures goes_on { GoesOn I.told I.size I.faults I.keeps i.old i.new }
@@ -281,9 +284,9 @@ fn add_missing<I: Intervals>(
         (I.intervals i.new) home.now.anchor) }
     ensures some { RootsGain roots.now others.now → IfOk result (λ added. added ≡ true) }
     ensures same { I.told i.old → IfOk result (λ added. added ≡ false → I.intervals i.new ≡ I.intervals i.old) }
-    ensures sound { I.told i.old → IsInOrder home.now.shape.now (I.intervals i.old)
+    ensures lists { I.told i.old
         → HasRoots home.now.shape.now home.now.segments.now (I.intervals i.old) home.now.anchor roots.now → (ci : ℕ)
-        → result ≢ Err (AnchorFault.Damaged ci) }
+        → result ≡ Err (AnchorFault.Damaged ci) → IsAtFault home.now.shape.now (I.intervals i.old) ci }
     ensures failed { IsErrOf result AnchorFault.Failed → Rose (I.faults i.old) (I.faults i.new) }
     ensures number { I.number i.old ≤ I.number i.new }
     ensures goes_on { GoesOn I.told I.size I.faults I.keeps i.old i.new }
@@ -301,7 +304,7 @@ fn add_missing<I: Intervals>(
 
 /// Whether a list of roots has one segment more than another.
 fn gains(roots: &List<Root>, others: &List<Root>) -> bool
-    ensures { RootsGain roots.now others.now → IsTrue result }
+    ensures { IsTrue result ↔ RootsGain roots.now others.now }
 {
     !matches!(
         gain_of_roots(roots.as_slice(), others.as_slice()),
@@ -336,10 +339,11 @@ pub(crate) fn set_more<I: Intervals>(
     ensures more { I.told i.old
         → HasRoots home.now.shape.now home.now.segments.now (I.intervals i.old) home.now.anchor before.now
         → RootsGain before.now after.now → IfOk result (λ more. more ≡ true) }
+    ensures gains { IfOk result (λ more. more ≡ true → RootsGain before.now after.now) }
     ensures same { I.told i.old → IfOk result (λ more. more ≡ false → I.intervals i.new ≡ I.intervals i.old) }
-    ensures sound { I.told i.old → IsInOrder home.now.shape.now (I.intervals i.old)
+    ensures lists { I.told i.old
         → HasChain home.now.shape.now home.now.segments.now (I.intervals i.old) home.now.anchor → (ci : ℕ)
-        → result ≢ Err (AnchorFault.Damaged ci) }
+        → result ≡ Err (AnchorFault.Damaged ci) → IsAtFault home.now.shape.now (I.intervals i.old) ci }
     ensures damaged { I.told i.old
         → ¬ HasChain home.now.shape.now home.now.segments.now (I.intervals i.old) home.now.anchor → (ci : ℕ)
         → result ≡ Err (AnchorFault.Damaged ci)

@@ -5,11 +5,12 @@
 //! and both are gone through once, from the last to the first: what is left to look at ends at `to`. What a plan
 //! promises doesn't rest on that order: only that no element is taken twice, and each by a segment of its type.
 
-ghost use Rattle.std.specs.Prelude.{◌≡◌, ◌<◌, ◌≤◌, ◌++◌, ◌∷◌, List, OnOk, IfOk, IsErr, Err, IfSome, IfNone, length, map, true};
-ghost use Rattle.fp_model.specs.Order.{child_types};
+ghost use Rattle.std.specs.Prelude.{◌≡◌, ◌<◌, ◌≤◌, ◌+◌, ◌++◌, ◌∷◌, [], ℕ, List, OnOk, IfOk, IsErr, Err, IfSome, IfNone, Some, length, map, true};
+ghost use Rattle.fp_model.specs.Order.{child_types, key_in as key_of_type};
 ghost use Rattle.fp_model.specs.WellFormed.{HavePlaces};
 ghost use Rattle.root_anchor.specs.Stored.{are_storable, row_has_form, rows_have_form};
 ghost use Rattle.root_anchor.specs.Rebuilding.{types_of, types_of_row, types_of_rows, types_of_roots, types_of_segment, TakesOut, Shares};
+ghost use Rattle.root_anchor.specs.Keeping.{IsLastOf, PlansAll, kept, keys_of_row, keys_of_rows, keys_of_roots, keys_of_segment, marks_of};
 ghost use Rattle.root_anchor.specs.declared.standing.Standing.{Standing as StandingOf};
 
 use crate::building::types_below;
@@ -29,7 +30,9 @@ pub(crate) struct Planned {
 }
 
 /// The key of a segment of a type.
-fn key_in<'a>(segments: &List<SegDef>, segment: u8, bytes: &'a [u8]) -> &'a [u8] {
+fn key_in<'a>(segments: &List<SegDef>, segment: u8, bytes: &'a [u8]) -> &'a [u8]
+    ensures { result.now ≡ key_of_type segments.now segment bytes.now }
+{
     match segments.get(usize::from(segment)) {
         Some(def) => key_of(def.fields.as_slice(), bytes),
         None => &[],
@@ -46,7 +49,9 @@ struct Found {
 /// The element of this type and this key, between two places. Elements of the type are looked at from the last to the
 /// first, and none behind a lower key.
 fn find_like(standing: &[Standing], from: usize, to: usize, segment: u8, key: &[u8]) -> Found
-    ensures { IfSome result.place (λ k. k < length standing.now) }
+    ensures within { IfSome result.place (λ k. k < length standing.now) }
+    ensures last { (k : ℕ) → IsLastOf standing.now segment key.now k → from ≤ k → length standing.now ≤ to
+        → (result.place ≡ Some k) × (result.end ≡ length standing.now) }
 {
     let mut end = to.min(standing.len());
     let mut left = end;
@@ -72,6 +77,7 @@ fn find_like(standing: &[Standing], from: usize, to: usize, segment: u8, key: &[
 /// Where the elements below the one at a place begin. Below none there are none.
 fn below(standing: &[Standing], place: Option<usize>) -> usize
     requires { IfSome place (λ k. k < length standing.now) }
+    ensures { (k : ℕ) → place ≡ Some k → result ≡ k + 1 }
 {
     match place {
         Some(place) => place + 1,
@@ -83,6 +89,9 @@ fn below(standing: &[Standing], place: Option<usize>) -> usize
 fn take_out(standing: &mut Vec<Standing>, place: Option<usize>, segment: u8) -> Option<Pointer>
     ensures taken { IfSome result (TakesOut standing.old.items standing.new.items segment) }
     ensures none { IfNone result (standing.new.items ≡ standing.old.items) }
+    ensures last { (before : List StandingOf) (one : StandingOf) → standing.old.items ≡ before ++ one ∷ []
+        → place ≡ Some (length before) → one.segment ≡ segment
+        → (result ≡ Some one.at) × (standing.new.items ≡ before) }
 {
     let place = place?;
     if place >= standing.len() || standing[place].segment != segment {
@@ -102,6 +111,9 @@ fn plan_itself(
     ensures types { OnOk result (types_of plan.new.items ≡ segment ∷ types_of plan.old.items) }
     ensures shares { (all : List StandingOf) → Shares all plan.old.items standing.old.items
         → OnOk result (Shares all plan.new.items standing.new.items) }
+    ensures last { (before : List StandingOf) (one : StandingOf) → standing.old.items ≡ before ++ one ∷ []
+        → place ≡ Some (length before) → one.segment ≡ segment
+        → OnOk result ((standing.new.items ≡ before) × (plan.new.items ≡ kept (one ∷ []) ++ plan.old.items)) }
     ensures memory { IsErr result → result ≡ Err AnchorFault.Memory }
 {
     let at = take_out(standing, place, segment);
@@ -131,6 +143,10 @@ fn plan_segment(
         types_of plan.old.items) }
     ensures shares { (all : List StandingOf) → Shares all plan.old.items standing.old.items
         → OnOk result (Shares all plan.new.items standing.new.items) }
+    ensures kept { (before part : List StandingOf) → standing.old.items ≡ before ++ part
+        → to.old ≡ length standing.old.items → from ≤ length before
+        → marks_of part ≡ keys_of_segment segments.now segment bytes.now children.now
+        → OnOk result (PlansAll before part standing.new.items to.new plan.old.items plan.new.items) }
     ensures memory { IsErr result → result ≡ Err AnchorFault.Memory }
 {
     let key = key_in(segments, segment, bytes.as_slice());
@@ -166,6 +182,10 @@ fn plan_row(
         plan.old.items) }
     ensures shares { (all : List StandingOf) → Shares all plan.old.items standing.old.items
         → OnOk result (Shares all plan.new.items standing.new.items) }
+    ensures kept { (before part : List StandingOf) → standing.old.items ≡ before ++ part
+        → to.old ≡ length standing.old.items → from ≤ length before
+        → marks_of part ≡ keys_of_row segments.now segment row.now
+        → OnOk result (PlansAll before part standing.new.items to.new plan.old.items plan.new.items) }
     ensures memory { IsErr result → result ≡ Err AnchorFault.Memory }
 {
     let mut left = row.len();
@@ -206,6 +226,10 @@ fn plan_rows(
         rows.now ++ types_of plan.old.items) }
     ensures shares { (all : List StandingOf) → Shares all plan.old.items standing.old.items
         → OnOk result (Shares all plan.new.items standing.new.items) }
+    ensures kept { (before part : List StandingOf) → standing.old.items ≡ before ++ part
+        → to.old ≡ length standing.old.items → from ≤ length before
+        → marks_of part ≡ keys_of_rows segments.now (child_types segments.now segment) rows.now
+        → OnOk result (PlansAll before part standing.new.items to.new plan.old.items plan.new.items) }
     ensures memory { IsErr result → result ≡ Err AnchorFault.Memory }
 {
     let types = types_below(alloc, segments.as_slice(), segment)?;
@@ -231,6 +255,8 @@ pub(crate) fn plan_roots(
     requires roots { are_storable segments.now roots.now ≡ true }
     ensures types { IfOk result (λ plan. types_of plan.items ≡ types_of_roots segments.now roots.now) }
     ensures shares { IfOk result (λ plan. Shares standing.old.items plan.items standing.new.items) }
+    ensures kept { marks_of standing.old.items ≡ keys_of_roots segments.now roots.now
+        → IfOk result (λ plan. plan.items ≡ kept standing.old.items) }
     ensures memory { IsErr result → result ≡ Err AnchorFault.Memory }
 {
     let mut plan = VecDeque::new(alloc);

@@ -10,12 +10,14 @@ ghost use Rattle.anchor_elements.specs.Elements.{AreTypes, Segment, HasSegment};
 ghost use Rattle.anchor_elements.specs.Puts.{PutsSegment};
 ghost use Rattle.root_anchor.specs.Chains.{anchor_count};
 ghost use Rattle.root_anchor.specs.Damage.{ChainFails};
+ghost use Rattle.root_anchor.specs.Faults.{ListsFail};
 ghost use Rattle.root_changes.specs.Differing.{RootsDiffer};
 ghost use Rattle.root_changes.specs.Gaining.{RootsGain};
 ghost use Rattle.root_anchor.specs.Differing.{ChangesAlone};
 ghost use Rattle.root_anchor.specs.Finding.{FitsType, says_of};
-ghost use Rattle.root_anchor.specs.Formed.{IsFormed, HasChain, HasRoots};
+ghost use Rattle.root_anchor.specs.Formed.{IsFormed, HasChain, HasRoots, NewAreOwn};
 ghost use Rattle.root_anchor.specs.Gaps.{AddsOne, FewChange, SegmentsStay};
+ghost use Rattle.root_anchor.specs.Keeping.{KeepsElements};
 ghost use Rattle.root_anchor.specs.Stored.{are_storable, ApartKeep, OthersKeep, KeepsSequential};
 
 use crate::building::Home;
@@ -122,9 +124,17 @@ fn rewrite_held<I: Intervals>(
     ensures apart { I.told i.old → HasRoots shape.now segments.now (I.intervals i.old) anchor before.now
         → IsInOrder shape.now (I.intervals i.old)
         → OnOk result (ApartKeep shape.now segments.now (I.intervals i.old) (I.intervals i.new) anchor) }
+    ensures own { I.told i.old → HasRoots shape.now segments.now (I.intervals i.old) anchor before.now
+        → IsInOrder shape.now (I.intervals i.old)
+        → OnOk result (NewAreOwn shape.now segments.now (I.intervals i.old) (I.intervals i.new) anchor) }
     ensures formed { I.told i.old → HasRoots shape.now segments.now (I.intervals i.old) anchor before.now
         → IsFormed shape.now segments.now (I.intervals i.old)
         → OnOk result (IsFormed shape.now segments.now (I.intervals i.new)) }
+
+    // And where no segment comes or goes, each stays in its element.
+    ensures keep { I.told i.old → HasRoots shape.now segments.now (I.intervals i.old) anchor before.now
+        → IsInOrder shape.now (I.intervals i.old) → ¬ RootsGain before.now after.now
+        → OnOk result (KeepsElements shape.now segments.now (I.intervals i.old) (I.intervals i.new) anchor after.now) }
 
     // And where the lists differ in one segment, just its element changes, and nothing is damaged.
     ensures alone { I.told i.old → HasRoots shape.now segments.now (I.intervals i.old) anchor before.now
@@ -154,6 +164,8 @@ fn rewrite_held<I: Intervals>(
         → result ≢ Err (AnchorFault.Damaged ci) }
     ensures damaged { I.told i.old → ¬ HasChain shape.now segments.now (I.intervals i.old) anchor → (ci : ℕ)
         → result ≡ Err (AnchorFault.Damaged ci) → ChainFails shape.now segments.now (I.intervals i.old) anchor ci }
+    ensures lists { I.told i.old → HasChain shape.now segments.now (I.intervals i.old) anchor → (ci : ℕ)
+        → result ≡ Err (AnchorFault.Damaged ci) → ListsFail shape.now segments.now (I.intervals i.old) anchor ci }
     ensures stood { I.told i.old → OnOk result (HasChain shape.now segments.now (I.intervals i.old) anchor
         ⊎ ChangesAlone shape.now segments.now (I.intervals i.old) (I.intervals i.new) anchor before.now after.now) }
 
@@ -225,9 +237,17 @@ pub fn rewrite<I: Intervals>(
     ensures apart { I.told i.old → HasRoots shape.now segments.now (I.intervals i.old) anchor before.now
         → IsInOrder shape.now (I.intervals i.old)
         → OnOk result (ApartKeep shape.now segments.now (I.intervals i.old) (I.intervals i.new) anchor) }
+    ensures own { I.told i.old → HasRoots shape.now segments.now (I.intervals i.old) anchor before.now
+        → IsInOrder shape.now (I.intervals i.old)
+        → OnOk result (NewAreOwn shape.now segments.now (I.intervals i.old) (I.intervals i.new) anchor) }
     ensures formed { I.told i.old → HasRoots shape.now segments.now (I.intervals i.old) anchor before.now
         → IsFormed shape.now segments.now (I.intervals i.old)
         → OnOk result (IsFormed shape.now segments.now (I.intervals i.new)) }
+
+    // And where no segment comes or goes, each stays in its element.
+    ensures keep { I.told i.old → HasRoots shape.now segments.now (I.intervals i.old) anchor before.now
+        → IsInOrder shape.now (I.intervals i.old) → ¬ RootsGain before.now after.now
+        → OnOk result (KeepsElements shape.now segments.now (I.intervals i.old) (I.intervals i.new) anchor after.now) }
 
     // And where the lists differ in one segment, just its element changes, and nothing is damaged.
     ensures alone { I.told i.old → HasRoots shape.now segments.now (I.intervals i.old) anchor before.now
@@ -261,6 +281,8 @@ pub fn rewrite<I: Intervals>(
         → result ≢ Err (AnchorFault.Damaged ci) }
     ensures damaged { I.told i.old → ¬ HasChain shape.now segments.now (I.intervals i.old) anchor → (ci : ℕ)
         → result ≡ Err (AnchorFault.Damaged ci) → ChainFails shape.now segments.now (I.intervals i.old) anchor ci }
+    ensures lists { I.told i.old → HasChain shape.now segments.now (I.intervals i.old) anchor → (ci : ℕ)
+        → result ≡ Err (AnchorFault.Damaged ci) → ListsFail shape.now segments.now (I.intervals i.old) anchor ci }
     ensures stood { I.told i.old → before.now ≢ after.now
         → OnOk result (HasChain shape.now segments.now (I.intervals i.old) anchor
         ⊎ ChangesAlone shape.now segments.now (I.intervals i.old) (I.intervals i.new) anchor before.now after.now) }

@@ -7,13 +7,15 @@
 ghost use Rattle.std.specs.Prelude.{◌≡◌, ◌≢◌, ◌<◌, ◌≤◌, [], ℕ, List, Err, OnOk, IsErrOf, true};
 ghost use Rattle.ci_space.specs.Calls.{Rose, GoesOn};
 ghost use Rattle.ci_overflow.specs.Lists.{IsInOrder};
-ghost use Rattle.root_anchor.specs.Chains.{anchor_count};
+ghost use Rattle.root_anchor.specs.Chains.{IsChain, anchor_count};
 ghost use Rattle.root_anchor.specs.Damage.{ChainFails};
-ghost use Rattle.root_anchor.specs.Formed.{IsFormed, HasChain, HasRoots};
+ghost use Rattle.root_anchor.specs.Faults.{ComesTo, FaultComes, ListsFail};
+ghost use Rattle.root_anchor.specs.Formed.{IsFormed, HasChain, HasRoots, NewAreOwn};
+ghost use Rattle.root_anchor.specs.Keeping.{KeepsElements};
 ghost use Rattle.anchor_elements.specs.Elements.{AreTypes};
 ghost use Rattle.root_anchor.specs.Stored.{are_storable, ApartKeep, OthersKeep, KeepsSequential};
 ghost use Rattle.root_anchor.specs.Standing.{places_of};
-ghost use Rattle.root_anchor.specs.Rebuilding.{Exchanges, AreGivable, IsRebuildable, Rebuilds, types_of, types_of_roots};
+ghost use Rattle.root_anchor.specs.Rebuilding.{ArePlaced, Exchanges, AreGivable, IsRebuildable, Rebuilds, met_after, reserved, types_of, types_of_roots};
 
 use crate::building::{Home, build_roots, fault_of};
 use crate::holding::{Begun, begin, rest, settle};
@@ -37,11 +39,15 @@ fn give_back_all<I: Intervals>(
     shape: &Shape,
     elements: &[Standing],
 ) -> Result<(), AnchorFault>
-    ensures given { I.told i.old → IsInOrder shape.now (I.intervals i.old)
-        → AreGivable (I.intervals i.old) (places_of elements.now)
+    ensures given { I.told i.old → AreGivable (I.intervals i.old) (places_of elements.now)
         → OnOk result (Exchanges shape.now (I.intervals i.old) (I.intervals i.new) (places_of elements.now) []) }
+    ensures comes { I.told i.old → (anchor : ℕ) → OnOk result
+        (ComesTo shape.now anchor (places_of elements.now) (I.intervals i.old) (I.intervals i.new)) }
     ensures sound { I.told i.old → IsInOrder shape.now (I.intervals i.old)
         → AreGivable (I.intervals i.old) (places_of elements.now) → (ci : ℕ) → result ≢ Err (AnchorFault.Damaged ci) }
+    ensures lists { I.told i.old → AreGivable (I.intervals i.old) (places_of elements.now) → (anchor ci : ℕ)
+        → result ≡ Err (AnchorFault.Damaged ci)
+        → FaultComes shape.now anchor (places_of elements.now) (I.intervals i.old) ci }
     ensures failed { IsErrOf result AnchorFault.Failed → Rose (I.faults i.old) (I.faults i.new) }
     ensures number { I.number i.new ≡ I.number i.old }
     ensures goes_on { GoesOn I.told I.size I.faults I.keeps i.old i.new }
@@ -71,11 +77,20 @@ fn rebuild<I: Intervals>(
     requires roots { are_storable home.now.segments.now roots.now ≡ true }
     requires kinds { types_of plan.old.items ≡ types_of_roots home.now.segments.now roots.now }
     ensures rebuilt { I.told i.old → IsRebuildable home.now.shape.now home.now.segments.now (I.intervals i.old)
-        plan.old.items rest.now roots.now
+        home.now.anchor plan.old.items rest.now roots.now
         → OnOk result (Rebuilds home.now.shape.now home.now.segments.now (I.intervals i.old) (I.intervals i.new)
         home.now.anchor plan.old.items rest.now roots.now) }
-    ensures sound { I.told i.old → IsRebuildable home.now.shape.now home.now.segments.now (I.intervals i.old)
-        plan.old.items rest.now roots.now → (ci : ℕ) → result ≢ Err (AnchorFault.Damaged ci) }
+    ensures kept { I.told i.old → IsInOrder home.now.shape.now (I.intervals i.old)
+        → IsRebuildable home.now.shape.now home.now.segments.now (I.intervals i.old) home.now.anchor plan.old.items
+        rest.now roots.now → ArePlaced plan.old.items
+        → OnOk result (IsChain home.now.shape.now home.now.segments.now (I.intervals i.new) home.now.anchor roots.now
+        (met_after (reserved plan.old.items) [])) }
+    ensures sound { I.told i.old → IsInOrder home.now.shape.now (I.intervals i.old)
+        → IsRebuildable home.now.shape.now home.now.segments.now (I.intervals i.old) home.now.anchor plan.old.items
+        rest.now roots.now → (ci : ℕ) → result ≢ Err (AnchorFault.Damaged ci) }
+    ensures lists { I.told i.old → IsRebuildable home.now.shape.now home.now.segments.now (I.intervals i.old)
+        home.now.anchor plan.old.items rest.now roots.now → (ci : ℕ) → result ≡ Err (AnchorFault.Damaged ci)
+        → FaultComes home.now.shape.now home.now.anchor (places_of rest.now) (I.intervals i.old) ci }
     ensures failed { IsErrOf result AnchorFault.Failed → Rose (I.faults i.old) (I.faults i.new) }
     ensures number { I.number i.old ≤ I.number i.new }
     ensures goes_on { GoesOn I.told I.size I.faults I.keeps i.old i.new }
@@ -100,13 +115,18 @@ pub(crate) fn store_held<I: Intervals>(
     requires roots { are_storable segments.now roots.now ≡ true }
 
     // In a formed area this anchor has these roots, all others keep theirs, and the area is formed again. In any area
-    // in order each anchor keeps its roots that shares no element with this one.
+    // in order each anchor keeps its roots that shares no element with this one, new elements are in the anchor's own
+    // unit of work, and where no segment comes or goes, each stays in its element.
     ensures stored { I.told i.old → IsFormed shape.now segments.now (I.intervals i.old)
         → OnOk result (HasRoots shape.now segments.now (I.intervals i.new) anchor roots.now) }
     ensures others { I.told i.old → IsFormed shape.now segments.now (I.intervals i.old)
         → OnOk result (OthersKeep shape.now segments.now (I.intervals i.old) (I.intervals i.new) anchor) }
     ensures apart { I.told i.old → IsInOrder shape.now (I.intervals i.old)
         → OnOk result (ApartKeep shape.now segments.now (I.intervals i.old) (I.intervals i.new) anchor) }
+    ensures own { I.told i.old → IsInOrder shape.now (I.intervals i.old)
+        → OnOk result (NewAreOwn shape.now segments.now (I.intervals i.old) (I.intervals i.new) anchor) }
+    ensures keep { I.told i.old → IsInOrder shape.now (I.intervals i.old)
+        → OnOk result (KeepsElements shape.now segments.now (I.intervals i.old) (I.intervals i.new) anchor roots.now) }
     ensures sequential { I.told i.old → IsFormed shape.now segments.now (I.intervals i.old)
         → OnOk result (KeepsSequential shape.now (I.intervals i.old) (I.intervals i.new)) }
     ensures formed { I.told i.old → IsFormed shape.now segments.now (I.intervals i.old)
@@ -117,9 +137,12 @@ pub(crate) fn store_held<I: Intervals>(
         → HasChain shape.now segments.now (I.intervals i.old) anchor → (ci : ℕ)
         → result ≢ Err (AnchorFault.Damaged ci) }
 
-    // Where its chain is broken, the interval that is damaged is named, and `Ok` doesn't come.
+    // Where its chain is broken, the interval that is damaged is named, and `Ok` doesn't come. Where it stands, the one
+    // is named that is at fault in the overflow lists, as they are or as they become while the anchor is stored.
     ensures damaged { I.told i.old → ¬ HasChain shape.now segments.now (I.intervals i.old) anchor → (ci : ℕ)
         → result ≡ Err (AnchorFault.Damaged ci) → ChainFails shape.now segments.now (I.intervals i.old) anchor ci }
+    ensures lists { I.told i.old → HasChain shape.now segments.now (I.intervals i.old) anchor → (ci : ℕ)
+        → result ≡ Err (AnchorFault.Damaged ci) → ListsFail shape.now segments.now (I.intervals i.old) anchor ci }
     ensures stood { I.told i.old → OnOk result (HasChain shape.now segments.now (I.intervals i.old) anchor) }
 
     // It fails only with what holds the intervals.
@@ -145,7 +168,8 @@ pub(crate) fn store_held<I: Intervals>(
 /// The root anchor point, pointers and segments are written where they change. Elements that no segment keeps are given
 /// back before room is looked for.
 ///
-/// `Damaged` names the interval that is damaged, where the anchor's chain is broken; in a formed area it never comes.
+/// `Damaged` names the interval that is damaged, where the anchor's chain is broken, and else one that is at fault in the
+/// overflow lists; in a formed area it never comes.
 /// `Failed` comes only with what holds the intervals. After a fault what holds them is thrown away.
 pub fn store<I: Intervals>(
     alloc: Global,
@@ -160,13 +184,18 @@ pub fn store<I: Intervals>(
     requires roots { are_storable segments.now roots.now ≡ true }
 
     // In a formed area this anchor has these roots, all others keep theirs, and the area is formed again. In any area
-    // in order each anchor keeps its roots that shares no element with this one.
+    // in order each anchor keeps its roots that shares no element with this one, new elements are in the anchor's own
+    // unit of work, and where no segment comes or goes, each stays in its element.
     ensures stored { I.told i.old → IsFormed shape.now segments.now (I.intervals i.old)
         → OnOk result (HasRoots shape.now segments.now (I.intervals i.new) anchor roots.now) }
     ensures others { I.told i.old → IsFormed shape.now segments.now (I.intervals i.old)
         → OnOk result (OthersKeep shape.now segments.now (I.intervals i.old) (I.intervals i.new) anchor) }
     ensures apart { I.told i.old → IsInOrder shape.now (I.intervals i.old)
         → OnOk result (ApartKeep shape.now segments.now (I.intervals i.old) (I.intervals i.new) anchor) }
+    ensures own { I.told i.old → IsInOrder shape.now (I.intervals i.old)
+        → OnOk result (NewAreOwn shape.now segments.now (I.intervals i.old) (I.intervals i.new) anchor) }
+    ensures keep { I.told i.old → IsInOrder shape.now (I.intervals i.old)
+        → OnOk result (KeepsElements shape.now segments.now (I.intervals i.old) (I.intervals i.new) anchor roots.now) }
     ensures sequential { I.told i.old → IsFormed shape.now segments.now (I.intervals i.old)
         → OnOk result (KeepsSequential shape.now (I.intervals i.old) (I.intervals i.new)) }
     ensures formed { I.told i.old → IsFormed shape.now segments.now (I.intervals i.old)
@@ -177,9 +206,12 @@ pub fn store<I: Intervals>(
         → HasChain shape.now segments.now (I.intervals i.old) anchor → (ci : ℕ)
         → result ≢ Err (AnchorFault.Damaged ci) }
 
-    // Where its chain is broken, the interval that is damaged is named, and `Ok` doesn't come.
+    // Where its chain is broken, the interval that is damaged is named, and `Ok` doesn't come. Where it stands, the one
+    // is named that is at fault in the overflow lists, as they are or as they become while the anchor is stored.
     ensures damaged { I.told i.old → ¬ HasChain shape.now segments.now (I.intervals i.old) anchor → (ci : ℕ)
         → result ≡ Err (AnchorFault.Damaged ci) → ChainFails shape.now segments.now (I.intervals i.old) anchor ci }
+    ensures lists { I.told i.old → HasChain shape.now segments.now (I.intervals i.old) anchor → (ci : ℕ)
+        → result ≡ Err (AnchorFault.Damaged ci) → ListsFail shape.now segments.now (I.intervals i.old) anchor ci }
     ensures stood { I.told i.old → OnOk result (HasChain shape.now segments.now (I.intervals i.old) anchor) }
 
     // It fails only with what holds the intervals.

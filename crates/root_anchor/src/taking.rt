@@ -3,14 +3,16 @@
 //! New elements are taken one after the other, for the last segment first. So a walk for room goes on where one for an
 //! element of the same length stopped.
 
-ghost use Rattle.std.specs.Prelude.{◌≡◌, ◌≢◌, ◌<◌, ◌≤◌, ℕ, All, Err, IfOk, OnOk, IsErrOf};
+ghost use Rattle.std.specs.Prelude.{◌≡◌, ◌≢◌, ◌<◌, ◌≤◌, ℕ, List, All, Err, IfOk, OnOk, IsErrOf, Some};
 ghost use Rattle.ci_space.specs.Calls.{Rose, GoesOn};
+ghost use Rattle.ci_overflow.specs.Faults.{IsAtFault};
 ghost use Rattle.ci_overflow.specs.Known.{HasSeen};
 ghost use Rattle.ci_overflow.specs.Lists.{IsInOrder};
 ghost use Rattle.ci_overflow.specs.Places.{uow_of};
-ghost use Rattle.anchor_elements.specs.Elements.{AreTypes};
+ghost use Rattle.anchor_elements.specs.Elements.{AreTypes, Pointer};
 ghost use Rattle.root_anchor.specs.Chains.{anchor_count};
-ghost use Rattle.root_anchor.specs.Rebuilding.{AreReserved, HaveRoom, IsDirect, TakesPlace, TakesPlaces, types_of};
+ghost use Rattle.root_anchor.specs.Faults.{ComesTo, FaultComes};
+ghost use Rattle.root_anchor.specs.Rebuilding.{ArePlaced, AreReserved, HaveRoom, IsDirect, TakesPlace, TakesPlaces, types_of};
 
 use crate::building::{Home, fault_of};
 use crate::plan::Planned;
@@ -31,18 +33,23 @@ fn take_place<I: Intervals>(
     requires anchor { home.now.anchor < anchor_count home.now.shape.now }
     requires types { AreTypes (I.size i.old) home.now.segments.now }
     requires direct { IsDirect home.now.segments.now planned.segment }
-    ensures place { I.told i.old → IsInOrder home.now.shape.now (I.intervals i.old)
+    ensures place { I.told i.old
         → HasSeen home.now.shape.now (I.intervals i.old) (uow_of home.now.shape.now home.now.anchor) seen.old
         → HaveRoom home.now.segments.now (I.intervals i.old) planned.segment planned.at
         → IfOk result (λ at. TakesPlace home.now.shape.now home.now.segments.now (I.intervals i.old) (I.intervals i.new)
-        planned.segment planned.at at) }
+        home.now.anchor planned.segment planned.at at) }
     ensures seen { I.told i.old
         → HasSeen home.now.shape.now (I.intervals i.old) (uow_of home.now.shape.now home.now.anchor) seen.old
         → OnOk result (HasSeen home.now.shape.now (I.intervals i.new) (uow_of home.now.shape.now home.now.anchor)
         seen.new) }
-    ensures sound { I.told i.old → IsInOrder home.now.shape.now (I.intervals i.old)
+    ensures planned { (planned_at : Pointer) → planned.at ≡ Some planned_at → IfOk result (λ at. at ≡ planned_at) }
+    ensures comes { I.told i.old
         → HasSeen home.now.shape.now (I.intervals i.old) (uow_of home.now.shape.now home.now.anchor) seen.old
-        → (ci : ℕ) → result ≢ Err (AnchorFault.Damaged ci) }
+        → (elements : List Pointer) → OnOk result (ComesTo home.now.shape.now home.now.anchor elements
+        (I.intervals i.old) (I.intervals i.new)) }
+    ensures damaged { I.told i.old
+        → HasSeen home.now.shape.now (I.intervals i.old) (uow_of home.now.shape.now home.now.anchor) seen.old
+        → (ci : ℕ) → result ≡ Err (AnchorFault.Damaged ci) → IsAtFault home.now.shape.now (I.intervals i.old) ci }
     ensures failed { IsErrOf result AnchorFault.Failed → Rose (I.faults i.old) (I.faults i.new) }
     ensures number { I.number i.old ≤ I.number i.new }
     ensures goes_on { GoesOn I.told I.size I.faults I.keeps i.old i.new }
@@ -67,13 +74,15 @@ pub(crate) fn take_places<I: Intervals>(
     requires anchor { home.now.anchor < anchor_count home.now.shape.now }
     requires types { AreTypes (I.size i.old) home.now.segments.now }
     requires direct { All (IsDirect home.now.segments.now) (types_of plan.old.items) }
-    ensures taken { I.told i.old → IsInOrder home.now.shape.now (I.intervals i.old)
-        → AreReserved home.now.segments.now (I.intervals i.old) plan.old.items
+    ensures taken { I.told i.old → AreReserved home.now.segments.now (I.intervals i.old) plan.old.items
         → IfOk result (λ taken. TakesPlaces home.now.shape.now home.now.segments.now (I.intervals i.old)
-        (I.intervals i.new) plan.old.items taken.items) }
+        (I.intervals i.new) home.now.anchor plan.old.items taken.items) }
+    ensures kept { ArePlaced plan.old.items → IfOk result (λ taken. taken.items ≡ plan.old.items) }
     ensures sound { I.told i.old → IsInOrder home.now.shape.now (I.intervals i.old)
         → AreReserved home.now.segments.now (I.intervals i.old) plan.old.items
         → (ci : ℕ) → result ≢ Err (AnchorFault.Damaged ci) }
+    ensures lists { I.told i.old → (elements : List Pointer) (ci : ℕ) → result ≡ Err (AnchorFault.Damaged ci)
+        → FaultComes home.now.shape.now home.now.anchor elements (I.intervals i.old) ci }
     ensures failed { IsErrOf result AnchorFault.Failed → Rose (I.faults i.old) (I.faults i.new) }
     ensures number { I.number i.old ≤ I.number i.new }
     ensures goes_on { GoesOn I.told I.size I.faults I.keeps i.old i.new }

@@ -1,6 +1,4 @@
-use Rattle.std.proofs.Common.{◌≡◌}
 use Rattle.std.proofs.lemmas.Result.{err_from_is_err_and}
-use Rattle.ci_overflow.specs.Known.{HasSeen, IsKnown}
 use Rattle.ci_overflow.proofs.FaultLemmas.{in-order-sound}
 use Rattle.ci_overflow.proofs.Going.{same_fault}
 use Rattle.ci_overflow.proofs.room.find_room_seen.Goals as goal

@@ -22,11 +22,8 @@ build_row-build_segment-requires g t c κs within =
       (
         within,
         (
-          c.requires.anchor,
-          (
-            same-types _ _ _ c.loop-left.invariant.goes_on.same_size c.requires.types,
-            (c.requires.direct, (ap length c.as_slice-in-loop-left.ensures ∙ shape.bytes, ((λ _. refl), shape.rows))),
-          ),
+          same-types _ _ _ c.loop-left.invariant.goes_on.same_size c.requires.types,
+          (c.requires.direct, (ap length c.as_slice-in-loop-left.ensures ∙ shape.bytes, ((λ _. refl), shape.rows))),
         ),
       ),
     )
@@ -129,15 +126,12 @@ build_rows-build_row-requires g t c κs within =
       (
         within,
         (
-          c.requires.anchor,
+          same-types _ _ _ c.loop-left.invariant.goes_on.same_size c.requires.types,
           (
-            same-types _ _ _ c.loop-left.invariant.goes_on.same_size c.requires.types,
+            subst P (sym type) direct,
             (
-              subst P (sym type) direct,
-              (
-                ap (has_serial types) type ∙ serial,
-                rows-row types kinds rows k row c.index.result.now c.requires.rows here is type,
-              ),
+              ap (has_serial types) type ∙ serial,
+              rows-row types kinds rows k row c.index.result.now c.requires.rows here is type,
             ),
           ),
         ),
@@ -154,7 +148,7 @@ build_rows-returns-in_err-first-clause-sound g t c = λ told b u p ci e.
     c.as_slice.ensures in
     let m : length rows ≡ length c.in_ok-types.types.items =
     rows-count types kinds rows c.requires.rows ∙ ap length (sym are) in
-    let P : List ℕ → Type 0 = λ ks. IsPlanned c.args.home.now.shape.now types (g.I.Intervals.intervals c.args.i.now)
+    let P : List ℕ → Type 0 = λ ks. IsPlanned types (g.I.Intervals.intervals c.args.i.now)
     c.args.plan.now.items b u (types_of_rows types ks rows) in
     let q = subst P (sym are) p in
     let type = get_or_read c.in_ok-types.types.items (c.loop-left.left - 1) c.index.result.now
@@ -204,7 +198,7 @@ build_rows-returns-clause-built g t c = λ told b u p.
     let new = g.I.Intervals.intervals c.loop-left.i in
     let are : c.in_ok-types.types.items ≡ kinds = c.in_ok-types.ensures.types ∙ ap (λ ts. child_types ts c.args.segment)
     c.as_slice.ensures in
-    let P : List ℕ → Type 0 = λ ks. IsPlanned c.args.home.now.shape.now types old c.args.plan.now.items b u
+    let P : List ℕ → Type 0 = λ ks. IsPlanned types old c.args.plan.now.items b u
     (types_of_rows types ks rows) in
     let none : c.loop-left.left ≡ 0 = omega arith in
     let Q : ℕ → Type 0 = λ k. RowsDone c.args.home.now.shape.now types old new c.loop-left.plan.items b u
@@ -217,23 +211,28 @@ build_rows-returns-clause-built g t c = λ told b u p.
 pub build_segment-returns-in_err-firsts-clause-sound : goal.build_segment-returns-in_err-firsts-clause-sound
 build_segment-returns-in_err-firsts-clause-sound g t c = λ told b u p ci e.
     let f = err_from_is_err_and c.from_residual.result c.from_residual.ensures.1 in
-    let part = parted _ _ _ _ b u _ _ p in
+    let part = parted _ _ _ b u _ _ p in
     c.in_err-firsts.ensures.sound told _ _ part.planned ci (same_fault _ _ _ _ f.1 f.2 e)
+
+pub build_segment-returns-in_err-put_segment-clause-sound : goal.build_segment-returns-in_err-put_segment-clause-sound
+build_segment-returns-in_err-put_segment-clause-sound g t c = λ told b u p ci e.
+    let f = err_from_is_err_and c.from_residual-in_err-put_segment.result
+    c.from_residual-in_err-put_segment.ensures.1 in
+    let part = parted _ _ _ b u _ _ p in
+    let below = c.in_ok-firsts.ensures.built told _ _ part.planned in
+    let next = c.next_place-at.ensures b part.one below.0 in
+    let room = room-planned _ _ _ _ _ b u c.args.segment _ c.args.children.now _ p part below.1
+    (next.1 part.has_place.place part.has_place.is_place) in
+    c.in_err-put_segment.ensures.sound (c.build_rows.ensures.goes_on.tells told) room ci (same_fault _ _ _ _ f.1 f.2 e)
 
 pub build_segment-returns-clause-built : goal.build_segment-returns-clause-built
 build_segment-returns-clause-built g t c = λ told b u p.
-    let part = parted _ _ _ _ b u _ _ p in
+    let part = parted _ _ _ b u _ _ p in
     let below = c.in_ok-firsts.ensures.built told _ _ part.planned in
-    let next = c.next_place-planned.ensures b part.one below.0 in
-    let room = room-planned _ _ _ _ _ b u c.args.segment _ c.args.children.now _ p part below.1 next.1 in
-    segment-made _ _ _ _ _ _ _ b u c.args.segment _ _ c.args.children.now _ _ _ _ _ p part below.1 next.1 next.0
-    c.as_slice.ensures.value (c.place_segment.ensures.placed (c.build_rows.ensures.goes_on.tells told)
-    below.1.exchange.in_order room)
-
-pub build_segment-returns-clause-sound : goal.build_segment-returns-clause-sound
-build_segment-returns-clause-sound g t c = λ told b u p ci e.
-    let part = parted _ _ _ _ b u _ _ p in
-    let below = c.in_ok-firsts.ensures.built told _ _ part.planned in
-    let next = c.next_place-planned.ensures b part.one below.0 in
-    let room = room-planned _ _ _ _ _ b u c.args.segment _ c.args.children.now _ p part below.1 next.1 in
-    c.place_segment.ensures.sound (c.build_rows.ensures.goes_on.tells told) below.1.exchange.in_order room ci e
+    let next = c.next_place-at.ensures b part.one below.0 in
+    let is = next.1 part.has_place.place part.has_place.is_place in
+    let room = room-planned _ _ _ _ _ b u c.args.segment _ c.args.children.now _ p part below.1 is in (
+      next.0,
+      segment-made _ _ _ _ _ _ b u c.args.segment _ _ c.args.children.now _ _ _ _ p part below.1 is
+          c.as_slice.ensures.value (c.in_ok-put_segment.ensures.put (c.build_rows.ensures.goes_on.tells told) room),
+    )

@@ -22,7 +22,7 @@ invariant-build_row-loop-left g l = record {
   number : g.I.Intervals.number l.initial.i ≤ g.I.Intervals.number l.i;
   goes_on : GoesOn g.I.Intervals.told g.I.Intervals.size g.I.Intervals.faults g.I.Intervals.keeps l.initial.i l.i;
   done : g.I.Intervals.told l.initial.i → (before used : List Planned)
-      → IsPlanned l.home.shape.now l.home.segments.now (g.I.Intervals.intervals l.initial.i) l.initial.plan.items before
+      → IsPlanned l.home.segments.now (g.I.Intervals.intervals l.initial.i) l.initial.plan.items before
       used (types_of_row l.home.segments.now l.segment l.row)
       → RowDone l.home.shape.now l.home.segments.now (g.I.Intervals.intervals l.initial.i) (g.I.Intervals.intervals l.i)
       l.plan.items before used l.segment l.row l.left l.next;
@@ -39,7 +39,7 @@ invariant-build_rows-loop-left g l = record {
   number : g.I.Intervals.number l.initial.i ≤ g.I.Intervals.number l.i;
   goes_on : GoesOn g.I.Intervals.told g.I.Intervals.size g.I.Intervals.faults g.I.Intervals.keeps l.initial.i l.i;
   done : g.I.Intervals.told l.initial.i → (before used : List Planned)
-      → IsPlanned l.home.shape.now l.home.segments.now (g.I.Intervals.intervals l.initial.i) l.initial.plan.items before
+      → IsPlanned l.home.segments.now (g.I.Intervals.intervals l.initial.i) l.initial.plan.items before
       used (types_of_rows l.home.segments.now l.types.items l.rows)
       → RowsDone l.home.shape.now l.home.segments.now (g.I.Intervals.intervals l.initial.i)
       (g.I.Intervals.intervals l.i) l.plan.items before used l.types.items l.rows l.left l.firsts.items;

@@ -26,7 +26,6 @@ build_segment-requires g c =
     let shape = roots-root c.args.home.now.segments.now c.args.roots.now (c.loop-left.left - 1) root c.requires.roots
     (omega (arith, c.loop-left.invariant.within, c.loop-left-test.true)) is in
     record {
-      anchor = c.requires.anchor;
       types = same-types _ _ _ c.loop-left.invariant.goes_on.same_size c.requires.types;
       direct = root-direct _ _ c.requires.types;
       bytes = ap length c.as_slice-in-loop-left.ensures ∙ shape.bytes;

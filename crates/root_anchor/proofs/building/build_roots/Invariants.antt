@@ -12,7 +12,7 @@ invariant-loop-left g l = record {
   number : g.I.Intervals.number l.initial.i ≤ g.I.Intervals.number l.i;
   goes_on : GoesOn g.I.Intervals.told g.I.Intervals.size g.I.Intervals.faults g.I.Intervals.keeps l.initial.i l.i;
   done : g.I.Intervals.told l.initial.i → (before used : List Planned)
-      → IsPlanned l.home.shape.now l.home.segments.now (g.I.Intervals.intervals l.initial.i) l.initial.plan.items before
+      → IsPlanned l.home.segments.now (g.I.Intervals.intervals l.initial.i) l.initial.plan.items before
       used (types_of_roots l.home.segments.now l.roots)
       → RootsDone l.home.shape.now l.home.segments.now (g.I.Intervals.intervals l.initial.i)
       (g.I.Intervals.intervals l.i) l.plan.items before used l.roots l.left l.next;

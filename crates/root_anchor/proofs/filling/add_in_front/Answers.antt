@@ -1,7 +1,8 @@
 use Rattle.std.proofs.Common.{refl}
+use Rattle.std.proofs.lemmas.Result.{err_from_is_err_and}
 use Rattle.ci_overflow.proofs.Joins.{on_ok-map}
 use Rattle.root_anchor.specs.Gaps.{AddsInFront}
-use Rattle.root_anchor.proofs.Rebuilt.{base-in-place}
+use Rattle.root_anchor.proofs.Rebuilt.{place-stays}
 use Rattle.root_anchor.proofs.TypeLemmas.{root-direct, root_form}
 use Rattle.root_anchor.proofs.filling.add_in_front.Goals as goal
 
@@ -16,9 +17,9 @@ add_segment-requires-clause-fits g c =
     }
 
 pub returns-clause-filled : goal.returns-clause-filled
-returns-clause-filled g c = λ told o.
+returns-clause-filled g c = λ told base.
     let types = c.args.home.now.segments.now in
-    let adds = c.in_ok-at.ensures.adds told o in
+    let adds = c.in_ok-at.ensures.adds told in
     let shape = root_form types c.args.root.now c.requires.root in
     on_ok-map _ _ _ (λ put. (let made : AddsInFront c.args.home.now.shape.now types
     (g.I.Intervals.intervals c.args.i.now) (g.I.Intervals.intervals c.put_root.new.i) c.args.home.now.anchor c.args.first
@@ -34,10 +35,15 @@ returns-clause-filled g c = λ told o.
       put = put;
     } in made))
     (c.put_root.ensures.put (c.add_segment.ensures.goes_on.tells told)
-    (base-in-place _ _ _ adds.exchange.in_order c.requires.anchor))
+    (place-stays _ _ _ _ _ _ adds.exchange base))
 
-pub returns-clause-sound : goal.returns-clause-sound
-returns-clause-sound g c = λ told o ci e.
-    let adds = c.in_ok-at.ensures.adds told o in
-    c.put_root.ensures.sound (c.add_segment.ensures.goes_on.tells told)
-    (base-in-place _ _ _ adds.exchange.in_order c.requires.anchor) ci e
+pub returns-clause-lists : goal.returns-clause-lists
+returns-clause-lists g c = λ told base ci e.
+    let adds = c.in_ok-at.ensures.adds told in
+    absurd (c.put_root.ensures.sound (c.add_segment.ensures.goes_on.tells told)
+    (place-stays _ _ _ _ _ _ adds.exchange base) ci e)
+
+pub returns-in_err-at-clause-lists : goal.returns-in_err-at-clause-lists
+returns-in_err-at-clause-lists g c = λ told base ci e.
+    let p = err_from_is_err_and c.from_residual.result c.from_residual.ensures.1 in
+    c.in_err-at.ensures.lists told ci (cc (p.1, p.2, c.in_err-at.was))

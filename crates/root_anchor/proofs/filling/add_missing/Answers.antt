@@ -1,7 +1,9 @@
 use Rattle.std.proofs.Common.{◌≡◌, ◌∙◌, ◌<◌, true, [], length, refl, sym, ap, subst, IfOk}
 use Rattle.std.proofs.lemmas.Option.{slice_get_within}
 use Rattle.std.proofs.lemmas.Result.{err_from_is_err_and}
-use Rattle.ci_overflow.specs.Lists.{IsInOrder}
+use Rattle.ci_overflow.specs.Faults.{IsAtFault}
+use Rattle.ci_overflow.specs.Lists.{IsInOrder, IsInPlace}
+use Rattle.ci_overflow.specs.Places.{base_of}
 use Rattle.fp_model.specs.declared.database.Root.{Root}
 use Rattle.fp_model.specs.Order.{child_types}
 use Rattle.root_anchor.specs.Chains.{root_of}
@@ -33,17 +35,22 @@ add_in_front-requires-clause-root g c =
     ap (is_storable c.args.home.now.segments.now) c.index-others-0.is
     ∙ root_at c.args.home.now.segments.now c.args.others.now 0 c.index-others-0.result c.requires.form b
 
-pub returns-in_err-add_in_front-clause-sound : goal.returns-in_err-add_in_front-clause-sound
-returns-in_err-add_in_front-clause-sound g c = λ told o has ci e.
+pub returns-in_err-first-clause-lists : goal.returns-in_err-first-clause-lists
+returns-in_err-first-clause-lists g c = λ told has ci e.
+    let p = err_from_is_err_and c.from_residual.result c.from_residual.ensures.1 in
+    absurd ((c.root_anchor_point.ensures.no_base told ci (cc (p.1, p.2, c.in_err-first.was))).1 has.is_chain.base)
+
+pub returns-in_err-add_in_front-clause-lists : goal.returns-in_err-add_in_front-clause-lists
+returns-in_err-add_in_front-clause-lists g c = λ told has ci e.
     let shape = c.args.home.now.shape.now in
-    let types = c.args.home.now.segments.now in
     let anchor = c.args.home.now.anchor in
     let told1 = c.root_anchor_point.ensures.look.goes_on.tells told in
     let same = c.root_anchor_point.ensures.look.same told in
-    let order = subst (λ x. IsInOrder shape x) (sym same) o in
+    let base = subst (λ x. IsInPlace shape x (base_of shape anchor)) (sym same) has.is_chain.base in
     let p = err_from_is_err_and c.from_residual-in_err-add_in_front.result
     c.from_residual-in_err-add_in_front.ensures.1 in
-    c.add_in_front.ensures.sound told1 order ci (cc (p.1, p.2, c.in_err-add_in_front.was))
+    subst (λ x. IsAtFault shape x ci) same
+    (c.in_err-add_in_front.ensures.lists told1 base ci (cc (p.1, p.2, c.in_err-add_in_front.was)))
 
 pub returns-then-is_in_front-clause-refills : goal.returns-then-is_in_front-clause-refills
 returns-then-is_in_front-clause-refills g c = λ told o all a has yes.
@@ -52,12 +59,12 @@ returns-then-is_in_front-clause-refills g c = λ told o all a has yes.
     let anchor = c.args.home.now.anchor in
     let told1 = c.root_anchor_point.ensures.look.goes_on.tells told in
     let same = c.root_anchor_point.ensures.look.same told in
-    let order = subst (λ x. IsInOrder shape x) (sym same) o in
+    let base = subst (λ x. IsInPlace shape x (base_of shape anchor)) (sym same) (c.in_ok-first.ensures.in_place told) in
     let z : Root = c.index-others-0.result in
     let new = root_new_read c.args.roots.now c.args.others.now 0 z
     (c.gain_of_roots-gain.ensures.tells.new 0 (c.is_in_front.ensures.0 c.if-is_in_front.true)) c.index-others-0.is in
     let adds = subst (λ x. AddsInFront shape types x (g.I.Intervals.intervals c.add_in_front.new.i) anchor
-    c.in_ok-first.first z) same (c.in_ok-add_in_front.ensures.filled told1 order) in
+    c.in_ok-first.first z) same (c.in_ok-add_in_front.ensures.filled told1 base) in
     front_rebuilds shape types _ _ anchor all c.in_ok-first.first c.args.roots.now c.args.others.now z
     (c.in_ok-first.ensures.root told) a has (first_more c.args.roots.now c.args.others.now 0 z new.more refl) new.bare
     (rows-count types (child_types types 0) z.children
@@ -70,10 +77,10 @@ returns-then-is_in_front-clause-few g c = λ told o yes.
     let anchor = c.args.home.now.anchor in
     let told1 = c.root_anchor_point.ensures.look.goes_on.tells told in
     let same = c.root_anchor_point.ensures.look.same told in
-    let order = subst (λ x. IsInOrder shape x) (sym same) o in
+    let base = subst (λ x. IsInPlace shape x (base_of shape anchor)) (sym same) (c.in_ok-first.ensures.in_place told) in
     front_few shape types _ _ anchor c.in_ok-first.first c.index-others-0.result
     (subst (λ x. AddsInFront shape types x (g.I.Intervals.intervals c.add_in_front.new.i) anchor
-    c.in_ok-first.first c.index-others-0.result) same (c.in_ok-add_in_front.ensures.filled told1 order))
+    c.in_ok-first.first c.index-others-0.result) same (c.in_ok-add_in_front.ensures.filled told1 base))
 
 pub returns-then-is_in_front-clause-stay : goal.returns-then-is_in_front-clause-stay
 returns-then-is_in_front-clause-stay g c = λ told o yes.
@@ -82,10 +89,10 @@ returns-then-is_in_front-clause-stay g c = λ told o yes.
     let anchor = c.args.home.now.anchor in
     let told1 = c.root_anchor_point.ensures.look.goes_on.tells told in
     let same = c.root_anchor_point.ensures.look.same told in
-    let order = subst (λ x. IsInOrder shape x) (sym same) o in
+    let base = subst (λ x. IsInPlace shape x (base_of shape anchor)) (sym same) (c.in_ok-first.ensures.in_place told) in
     front_stay shape types _ _ anchor c.in_ok-first.first c.index-others-0.result
     (subst (λ x. AddsInFront shape types x (g.I.Intervals.intervals c.add_in_front.new.i) anchor
-    c.in_ok-first.first c.index-others-0.result) same (c.in_ok-add_in_front.ensures.filled told1 order))
+    c.in_ok-first.first c.index-others-0.result) same (c.in_ok-add_in_front.ensures.filled told1 base))
 
 -- ---- any other segment
 
@@ -130,17 +137,16 @@ pub returns-clause-some : goal.returns-clause-some
 returns-clause-some g c = λ gain. c.add_behind.ensures.some (λ e. c.gain_of_roots-gain.ensures.tells.none e gain)
     (λ e. let yes = c.is_in_front.ensures.1 e in let no = c.if-is_in_front.false in absurd (cc))
 
-pub returns-clause-sound : goal.returns-clause-sound
-returns-clause-sound g c = λ told o has ci e.
+pub returns-clause-lists : goal.returns-clause-lists
+returns-clause-lists g c = λ told has ci e.
     let shape = c.args.home.now.shape.now in
     let types = c.args.home.now.segments.now in
     let anchor = c.args.home.now.anchor in
     let told1 = c.root_anchor_point.ensures.look.goes_on.tells told in
     let same = c.root_anchor_point.ensures.look.same told in
-    let order = subst (λ x. IsInOrder shape x) (sym same) o in
     let has1 = subst (λ x. HasRoots shape types x anchor c.args.roots.now) (sym same) has in
     let first = c.in_ok-first.ensures.root told ∙ ap (λ x. root_of shape x anchor) (sym same) in
-    c.add_behind.ensures.sound told1 order first has1 ci e
+    subst (λ x. IsAtFault shape x ci) same (c.add_behind.ensures.lists told1 first has1 ci e)
 
 pub returns-then-is_in_front-clause-one : goal.returns-then-is_in_front-clause-one
 returns-then-is_in_front-clause-one g c = λ told o has yes.
@@ -149,10 +155,10 @@ returns-then-is_in_front-clause-one g c = λ told o has yes.
     let anchor = c.args.home.now.anchor in
     let told1 = c.root_anchor_point.ensures.look.goes_on.tells told in
     let same = c.root_anchor_point.ensures.look.same told in
-    let order = subst (λ x. IsInOrder shape x) (sym same) o in
-    front_one shape types _ _ anchor c.in_ok-first.first c.index-others-0.result
+    let base = subst (λ x. IsInPlace shape x (base_of shape anchor)) (sym same) (c.in_ok-first.ensures.in_place told) in
+    front_one shape types _ _ anchor c.in_ok-first.first c.index-others-0.result o
     (subst (λ x. AddsInFront shape types x (g.I.Intervals.intervals c.add_in_front.new.i) anchor
-    c.in_ok-first.first c.index-others-0.result) same (c.in_ok-add_in_front.ensures.filled told1 order))
+    c.in_ok-first.first c.index-others-0.result) same (c.in_ok-add_in_front.ensures.filled told1 base))
 
 pub returns-clause-one : goal.returns-clause-one
 returns-clause-one g c = λ told o has.

@@ -1,3 +1,4 @@
+use Rattle.std.proofs.lemmas.Result.{err_from_is_err_and}
 use Rattle.ci_overflow.proofs.Joins.{on_ok-map}
 use Rattle.anchor_elements.specs.Reading.{segment_of}
 use Rattle.root_anchor.specs.Gaps.{AddsBehind}
@@ -5,8 +6,8 @@ use Rattle.root_anchor.proofs.FillLemmas.{others_there}
 use Rattle.root_anchor.proofs.filling.fill.Goals as goal
 
 pub returns-clause-filled : goal.returns-clause-filled
-returns-clause-filled g c = λ told o h.
-    let adds = c.in_ok-at.ensures.adds told o in
+returns-clause-filled g c = λ told h.
+    let adds = c.in_ok-at.ensures.adds told in
     let holder = c.args.gap.now.holder in
     let there = others_there c.args.home.now.shape.now c.args.home.now.segments.now _ _ c.args.home.now.anchor
     c.args.gap.now.added c.in_ok-at.at adds holder.segment holder.at (segment_of holder.said) h in
@@ -20,10 +21,15 @@ returns-clause-filled g c = λ told o h.
     } in made))
     (c.put_link.ensures.put (c.add_segment.ensures.goes_on.tells told) there)
 
-pub returns-clause-sound : goal.returns-clause-sound
-returns-clause-sound g c = λ told o h ci e.
-    let adds = c.in_ok-at.ensures.adds told o in
+pub returns-clause-lists : goal.returns-clause-lists
+returns-clause-lists g c = λ told h ci e.
+    let adds = c.in_ok-at.ensures.adds told in
     let holder = c.args.gap.now.holder in
     let there = others_there c.args.home.now.shape.now c.args.home.now.segments.now _ _ c.args.home.now.anchor
     c.args.gap.now.added c.in_ok-at.at adds holder.segment holder.at (segment_of holder.said) h in
-    c.put_link.ensures.sound (c.add_segment.ensures.goes_on.tells told) there ci e
+    absurd (c.put_link.ensures.sound (c.add_segment.ensures.goes_on.tells told) there ci e)
+
+pub returns-in_err-at-clause-lists : goal.returns-in_err-at-clause-lists
+returns-in_err-at-clause-lists g c = λ told h ci e.
+    let p = err_from_is_err_and c.from_residual.result c.from_residual.ensures.1 in
+    c.in_err-at.ensures.lists told ci (cc (p.1, p.2, c.in_err-at.was))

@@ -1,5 +1,6 @@
 use Rattle.std.proofs.Common.{◌≡◌, ◌∙◌, true, [], refl, sym, subst, IfOk}
 use Rattle.std.proofs.lemmas.Result.{err_from_is_err_and}
+use Rattle.ci_overflow.specs.Faults.{IsAtFault}
 use Rattle.ci_overflow.specs.Lists.{IsInOrder}
 use Rattle.root_changes.specs.Gaining.{RootsGain}
 use Rattle.root_anchor.specs.Formed.{HasChain, HasRoots}
@@ -12,10 +13,10 @@ use Rattle.root_anchor.proofs.OneChain.{one_chain}
 use Rattle.root_anchor.proofs.Sound.{chain_sound}
 use Rattle.root_anchor.proofs.filling.set_more.Goals as goal
 
-pub returns-in_err-roots-clause-sound : goal.returns-in_err-roots-clause-sound
-returns-in_err-roots-clause-sound g c = λ told o h ci e.
+pub returns-in_err-roots-clause-lists : goal.returns-in_err-roots-clause-lists
+returns-in_err-roots-clause-lists g c = λ told h ci e.
     let p = err_from_is_err_and c.from_residual.result c.from_residual.ensures.1 in
-    chain_sound h ci (c.walk_anchor.ensures.damaged told ci (cc (p.1, p.2, c.in_err-roots.was)))
+    absurd (chain_sound h ci (c.walk_anchor.ensures.damaged told ci (cc (p.1, p.2, c.in_err-roots.was))))
 
 pub returns-in_err-roots-clause-damaged : goal.returns-in_err-roots-clause-damaged
 returns-in_err-roots-clause-damaged g c = λ told none ci e.
@@ -78,8 +79,8 @@ returns-clause-more g c = λ told has gain.
     c.add_missing.ensures.some (subst (λ r. RootsGain c.as_slice.result.now r) (sym c.as_slice-2.ensures)
     (subst (λ r. RootsGain r c.args.after.now) ((one_chain has.is_chain w.is_chain).0 ∙ sym c.as_slice.ensures) gain))
 
-pub returns-clause-sound : goal.returns-clause-sound
-returns-clause-sound g c = λ told o h ci e.
+pub returns-clause-lists : goal.returns-clause-lists
+returns-clause-lists g c = λ told h ci e.
     let shape = c.args.home.now.shape.now in
     let types = c.args.home.now.segments.now in
     let anchor = c.args.home.now.anchor in
@@ -90,7 +91,7 @@ returns-clause-sound g c = λ told o h ci e.
     (sym c.as_slice.ensures)
     (subst (λ x. HasRoots shape types x anchor c.in_ok-roots.field-0.roots) (sym same)
     (record { elements = _; is_chain = w.is_chain })) in
-    c.add_missing.ensures.sound told1 (subst (λ x. IsInOrder shape x) (sym same) o) has ci e
+    subst (λ x. IsAtFault shape x ci) same (c.add_missing.ensures.lists told1 has ci e)
 
 pub returns-clause-damaged : goal.returns-clause-damaged
 returns-clause-damaged g c = λ told none ci e.
@@ -119,3 +120,7 @@ returns-clause-stood g c = λ told.
     any_ok c.add_missing.result (λ more. more ≡ true → HasChain c.args.home.now.shape.now c.args.home.now.segments.now
     (g.I.Intervals.intervals c.args.i.now) c.args.home.now.anchor)
     (λ more yes. record { roots = c.in_ok-roots.field-0.roots; elements = _; is_chain = w.is_chain })
+
+pub returns-clause-gains : goal.returns-clause-gains
+returns-clause-gains g c = any_ok c.add_missing.result (λ more. more ≡ true → RootsGain c.args.before.now c.args.after.now)
+    (λ more yes. c.gains.ensures.0 c.if-not-gains.false)

@@ -1,4 +1,5 @@
-use Rattle.std.proofs.Common.{◌≡◌, ◌≤◌, ◌+◌, ◌-◌, ◌*◌, ◌++◌, List, length, drop}
+use Rattle.std.proofs.Common.{◌≡◌, ◌≤◌, ◌+◌, ◌-◌, ◌*◌, ◌++◌, List, length, take, drop}
+use Rattle.root_anchor.specs.Keeping.{IsPlanning, keys_of_row, keys_of_rows, marks_of}
 use Rattle.root_anchor.specs.Rebuilding.{Shares, types_of, types_of_row, types_of_rows}
 use Rattle.root_anchor.specs.declared.standing.Standing.{Standing}
 use Rattle.root_anchor.proofs.plan.+plans.Given as goal
@@ -21,6 +22,11 @@ invariant-plan_row-loop-left l = record {
       l.initial.plan.items;
   shares : (all : List Standing) → Shares all l.initial.plan.items l.initial.standing.items
       → Shares all l.plan.items l.standing.items;
+  kept : (before part : List Standing) → l.initial.standing.items ≡ before ++ part
+      → l.initial.to ≡ length l.initial.standing.items → l.from ≤ length before
+      → marks_of part ≡ keys_of_row l.segments l.segment l.row
+      → IsPlanning before part l.standing.items l.to l.initial.plan.items l.plan.items
+      (keys_of_row l.segments l.segment (take l.left l.row));
 }
 
 abbrev pub decreases-plan_row-loop-left : goal.decreases-plan_row-loop-left
@@ -34,6 +40,11 @@ invariant-plan_rows-loop-left l = record {
       l.initial.plan.items;
   shares : (all : List Standing) → Shares all l.initial.plan.items l.initial.standing.items
       → Shares all l.plan.items l.standing.items;
+  kept : (before part : List Standing) → l.initial.standing.items ≡ before ++ part
+      → l.initial.to ≡ length l.initial.standing.items → l.from ≤ length before
+      → marks_of part ≡ keys_of_rows l.segments l.types.items l.rows
+      → IsPlanning before part l.standing.items l.to l.initial.plan.items l.plan.items
+      (keys_of_rows l.segments (take l.left l.types.items) (take l.left l.rows));
 }
 
 abbrev pub decreases-plan_rows-loop-left : goal.decreases-plan_rows-loop-left

@@ -1,4 +1,5 @@
-use Rattle.std.proofs.Common.{◌≡◌, ◌≤◌, length, drop}
+use Rattle.std.proofs.Common.{◌≡◌, ◌≤◌, [], length, take, drop}
+use Rattle.root_anchor.specs.Keeping.{IsPlanning, keys_of_roots, marks_of}
 use Rattle.root_anchor.specs.Rebuilding.{Shares, types_of, types_of_roots}
 use Rattle.root_anchor.proofs.plan.plan_roots.Given as goal
 
@@ -8,6 +9,9 @@ invariant-loop-left l = record {
   within : l.left ≤ length l.roots;
   types : types_of l.plan.items ≡ types_of_roots l.segments (drop l.left l.roots);
   shares : Shares l.initial.standing.items l.plan.items l.standing.items;
+  kept : marks_of l.initial.standing.items ≡ keys_of_roots l.segments l.roots
+      → IsPlanning [] l.initial.standing.items l.standing.items l.to [] l.plan.items
+      (keys_of_roots l.segments (take l.left l.roots));
 }
 
 abbrev pub decreases-loop-left : goal.decreases-loop-left

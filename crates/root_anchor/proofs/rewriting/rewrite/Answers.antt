@@ -5,16 +5,19 @@ use Rattle.std.proofs.lemmas.Result.{err_from_is_err_and}
 use Rattle.ci_space.specs.Calls.{GoesOn}
 use Rattle.ci_overflow.proofs.Going.{goes_on_joined}
 use Rattle.ci_overflow.specs.Lists.{IsInOrder}
+use Rattle.fp_model.specs.declared.database.Root.{Root}
 use Rattle.held_intervals.specs.Holding.{overlaid, AreRead, keeps_itself}
 use Rattle.held_intervals.proofs.Holds.{held_number, on_settled}
 use Rattle.root_anchor.specs.Damage.{ChainFails}
 use Rattle.root_anchor.specs.Differing.{ChangesAlone}
-use Rattle.root_anchor.specs.Formed.{IsFormed, HasChain, HasRoots}
+use Rattle.root_anchor.specs.Faults.{ListsFail}
+use Rattle.root_anchor.specs.Formed.{IsFormed, HasChain, HasRoots, NewAreOwn}
 use Rattle.root_anchor.specs.Gaps.{AddsOne, FewChange, SegmentsStay}
+use Rattle.root_anchor.specs.Keeping.{KeepsElements}
 use Rattle.root_anchor.specs.Stored.{ApartKeep, OthersKeep, KeepsSequential}
 use Rattle.root_changes.proofs.ComparingLemmas.{roots_apart, same_there}
 use Rattle.root_anchor.proofs.ChangeLemmas.{gain_apart}
-use Rattle.root_anchor.proofs.FillLemmas.{none_changes, none_stays}
+use Rattle.root_anchor.proofs.FillLemmas.{none_changes, none_own, none_stays, same_keeps}
 use Rattle.root_anchor.proofs.HeldLemmas.{starts}
 use Rattle.root_anchor.proofs.Sound.{chain_sound}
 use Rattle.root_anchor.proofs.rewriting.rewrite.Goals as goal
@@ -37,6 +40,18 @@ returns-then-are_same-clause-one g c = λ told has order gain.
     let same : c.args.before.now ≡ c.args.after.now = c.are_same.ensures.0 c.if-are_same.true in
     absurd (gain_apart c.args.before.now c.args.after.now gain same)
 
+pub returns-then-are_same-clause-own : goal.returns-then-are_same-clause-own
+returns-then-are_same-clause-own g c = λ told has order. none_own c.args.shape.now c.args.segments.now
+    (g.I.Intervals.intervals c.args.i.now) c.args.anchor
+
+pub returns-then-are_same-clause-keep : goal.returns-then-are_same-clause-keep
+returns-then-are_same-clause-keep g c = λ told has order none.
+    let same : c.args.before.now ≡ c.args.after.now = c.are_same.ensures.0 c.if-are_same.true in
+    let P : List Root → Type 0 = λ roots. HasRoots c.args.shape.now c.args.segments.now
+    (g.I.Intervals.intervals c.args.i.now) c.args.anchor roots in
+    same_keeps c.args.shape.now c.args.segments.now (g.I.Intervals.intervals c.args.i.now) c.args.anchor
+    c.args.after.now (subst P same has)
+
 pub returns-then-are_same-clause-stood : goal.returns-then-are_same-clause-stood
 returns-then-are_same-clause-stood g c = λ told differ. absurd (differ (c.are_same.ensures.0 c.if-are_same.true))
 
@@ -52,6 +67,11 @@ pub returns-in_err-size-clause-sound : goal.returns-in_err-size-clause-sound
 returns-in_err-size-clause-sound g c = λ told o h ci e.
     let p = err_from_is_err_and c.from_residual.result c.from_residual.ensures.1 in
     chain_sound h ci (c.begin.ensures.damaged told c.args.segments.now ci (cc (p.1, p.2, c.in_err-size.was)))
+
+pub returns-in_err-size-clause-lists : goal.returns-in_err-size-clause-lists
+returns-in_err-size-clause-lists g c = λ told h ci e.
+    let p = err_from_is_err_and c.from_residual.result c.from_residual.ensures.1 in
+    absurd (chain_sound h ci (c.begin.ensures.damaged told c.args.segments.now ci (cc (p.1, p.2, c.in_err-size.was))))
 
 pub settle-result-requires : goal.settle-result-requires
 settle-result-requires g c =
@@ -116,6 +136,46 @@ returns-clause-apart g c = λ told has order.
     (c.rewrite_held-rewritten.ensures.apart b.told_held (subst (λ a. HasRoots c.args.shape.now c.args.segments.now a c.args.anchor c.args.before.now) (sym b.over) has)
     (subst (λ a. IsInOrder c.args.shape.now a) (sym b.over) order)) in
     let x = on_settled c.settle-result.result c.rewrite_held-rewritten.result _ _ (λ a. ApartKeep c.args.shape.now c.args.segments.now (g.I.Intervals.intervals c.args.i.now) a c.args.anchor)
+    c.settle-result.ensures.done done made in
+    search rules
+
+pub returns-clause-own : goal.returns-clause-own
+returns-clause-own g c = λ told has order.
+    let q = c.new-held.result in
+    let n = c.rewrite_held-rewritten.new.i in
+    let b = starts c.begin.ensures.look c.new-held.ensures.under (c.new-held.ensures.size ∙ c.in_ok-size.ensures.size)
+    (subst (λ m. AreRead (get nat_cmp m) (g.I.Intervals.intervals c.args.i.now)) (sym c.new-held.ensures.read)
+    (c.in_ok-size.ensures.read told)) c.new-held.ensures.none_changed g.met.I.Intervals.numbered told in
+    let kept = c.rewrite_held-rewritten.ensures.goes_on.known q
+    (refl, keeps_itself _ _ _ _ _ _ q.under.now q.size (get nat_cmp q.changed)) in
+    let next : List (List ℕ) = overlaid (g.I.Intervals.number n.under.now) (get nat_cmp n.changed)
+    (g.I.Intervals.intervals n.under.now) in
+    let done = c.settle-result.ensures.put (kept.1.area.tells b.told_held.0) in
+    let name = kept.0 ∙ c.new-held.ensures.same_area in
+    let made = subst (λ b. OnOk c.rewrite_held-rewritten.result (NewAreOwn c.args.shape.now c.args.segments.now b next c.args.anchor)) b.over
+    (c.rewrite_held-rewritten.ensures.own b.told_held (subst (λ a. HasRoots c.args.shape.now c.args.segments.now a c.args.anchor c.args.before.now) (sym b.over) has)
+    (subst (λ a. IsInOrder c.args.shape.now a) (sym b.over) order)) in
+    let x = on_settled c.settle-result.result c.rewrite_held-rewritten.result _ _ (λ a. NewAreOwn c.args.shape.now c.args.segments.now (g.I.Intervals.intervals c.args.i.now) a c.args.anchor)
+    c.settle-result.ensures.done done made in
+    search rules
+
+pub returns-clause-keep : goal.returns-clause-keep
+returns-clause-keep g c = λ told has order none.
+    let q = c.new-held.result in
+    let n = c.rewrite_held-rewritten.new.i in
+    let b = starts c.begin.ensures.look c.new-held.ensures.under (c.new-held.ensures.size ∙ c.in_ok-size.ensures.size)
+    (subst (λ m. AreRead (get nat_cmp m) (g.I.Intervals.intervals c.args.i.now)) (sym c.new-held.ensures.read)
+    (c.in_ok-size.ensures.read told)) c.new-held.ensures.none_changed g.met.I.Intervals.numbered told in
+    let kept = c.rewrite_held-rewritten.ensures.goes_on.known q
+    (refl, keeps_itself _ _ _ _ _ _ q.under.now q.size (get nat_cmp q.changed)) in
+    let next : List (List ℕ) = overlaid (g.I.Intervals.number n.under.now) (get nat_cmp n.changed)
+    (g.I.Intervals.intervals n.under.now) in
+    let done = c.settle-result.ensures.put (kept.1.area.tells b.told_held.0) in
+    let name = kept.0 ∙ c.new-held.ensures.same_area in
+    let made = subst (λ b. OnOk c.rewrite_held-rewritten.result (KeepsElements c.args.shape.now c.args.segments.now b next c.args.anchor c.args.after.now)) b.over
+    (c.rewrite_held-rewritten.ensures.keep b.told_held (subst (λ a. HasRoots c.args.shape.now c.args.segments.now a c.args.anchor c.args.before.now) (sym b.over) has)
+    (subst (λ a. IsInOrder c.args.shape.now a) (sym b.over) order) none) in
+    let x = on_settled c.settle-result.result c.rewrite_held-rewritten.result _ _ (λ a. KeepsElements c.args.shape.now c.args.segments.now (g.I.Intervals.intervals c.args.i.now) a c.args.anchor c.args.after.now)
     c.settle-result.ensures.done done made in
     search rules
 
@@ -285,6 +345,18 @@ returns-clause-damaged g c = λ told broken ci e.
     subst (λ a. ChainFails c.args.shape.now c.args.segments.now a c.args.anchor ci) b.over
     (c.rewrite_held-rewritten.ensures.damaged b.told_held
     (subst (λ a. ¬ HasChain c.args.shape.now c.args.segments.now a c.args.anchor) (sym b.over) broken) ci
+    (c.settle-result.ensures.damaged ci e))
+
+pub returns-clause-lists : goal.returns-clause-lists
+returns-clause-lists g c = λ told chain ci e.
+    let q = c.new-held.result in
+    let n = c.rewrite_held-rewritten.new.i in
+    let b = starts c.begin.ensures.look c.new-held.ensures.under (c.new-held.ensures.size ∙ c.in_ok-size.ensures.size)
+    (subst (λ m. AreRead (get nat_cmp m) (g.I.Intervals.intervals c.args.i.now)) (sym c.new-held.ensures.read)
+    (c.in_ok-size.ensures.read told)) c.new-held.ensures.none_changed g.met.I.Intervals.numbered told in
+    subst (λ a. ListsFail c.args.shape.now c.args.segments.now a c.args.anchor ci) b.over
+    (c.rewrite_held-rewritten.ensures.lists b.told_held
+    (subst (λ a. HasChain c.args.shape.now c.args.segments.now a c.args.anchor) (sym b.over) chain) ci
     (c.settle-result.ensures.damaged ci e))
 
 pub returns-clause-goes_on : goal.returns-clause-goes_on

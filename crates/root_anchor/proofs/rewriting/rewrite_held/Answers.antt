@@ -1,14 +1,19 @@
-use Rattle.std.proofs.Common.{OnOk, ◌⊎◌, inl, inr, ◌∙◌, sym, subst}
+use Rattle.std.proofs.Common.{OnOk, inl, inr, ◌∙◌, sym, subst}
 use Rattle.std.proofs.lemmas.Result.{err_from_is_err_and}
+use Rattle.ci_overflow.specs.Faults.{IsAtFault}
 use Rattle.ci_overflow.specs.Lists.{IsInOrder}
+use Rattle.ci_overflow.proofs.FaultLemmas.{in-order-sound}
 use Rattle.ci_overflow.proofs.Joins.{on_ok-map}
 use Rattle.root_anchor.specs.Damage.{ChainFails}
-use Rattle.root_anchor.specs.Formed.{IsFormed, HasChain, HasRoots}
+use Rattle.root_anchor.specs.Faults.{ListsFail}
+use Rattle.root_anchor.specs.Formed.{IsFormed, HasChain, HasRoots, NewAreOwn}
 use Rattle.root_anchor.specs.Gaps.{AddsOne, FewChange, SegmentsStay}
+use Rattle.root_anchor.specs.Keeping.{KeepsElements}
 use Rattle.root_anchor.specs.Stored.{ApartKeep, OthersKeep, KeepsSequential}
 use Rattle.root_anchor.proofs.AloneLemmas.{alone_stored, alone_others, alone_apart, alone_formed, alone_sequential}
 use Rattle.root_anchor.proofs.ChangeLemmas.{roots_exclusive}
-use Rattle.root_anchor.proofs.FillLemmas.{alone_few, refill_stores, refill_apart}
+use Rattle.root_anchor.proofs.ComingLemmas.{lists_now}
+use Rattle.root_anchor.proofs.FillLemmas.{alone_few, alone_keeps, alone_own, refill_stores, refill_apart, refill_own}
 use Rattle.root_anchor.proofs.rewriting.rewrite_held.Goals as goal
 
 pub returns-in_err-alone-clause-sound : goal.returns-in_err-alone-clause-sound
@@ -18,6 +23,11 @@ returns-in_err-alone-clause-sound g c = λ told o h ci e.
 
 pub returns-in_err-alone-clause-damaged : goal.returns-in_err-alone-clause-damaged
 returns-in_err-alone-clause-damaged g c = λ told none ci e.
+    let p = err_from_is_err_and c.from_residual.result c.from_residual.ensures.1 in
+    absurd (c.set_alone.ensures.sound told ci (cc (p.1, p.2, c.in_err-alone.was)))
+
+pub returns-in_err-alone-clause-lists : goal.returns-in_err-alone-clause-lists
+returns-in_err-alone-clause-lists g c = λ told h ci e.
     let p = err_from_is_err_and c.from_residual.result c.from_residual.ensures.1 in
     absurd (c.set_alone.ensures.sound told ci (cc (p.1, p.2, c.in_err-alone.was)))
 
@@ -37,6 +47,14 @@ returns-then-alone-clause-others g c = λ told has formed. alone_others c.args.s
 
 pub returns-then-alone-clause-apart : goal.returns-then-alone-clause-apart
 returns-then-alone-clause-apart g c = λ told has order. alone_apart c.args.shape.now c.args.segments.now _ _
+    c.args.anchor c.args.before.now c.args.after.now (c.in_ok-alone.ensures.set told c.if-alone.true) has
+
+pub returns-then-alone-clause-own : goal.returns-then-alone-clause-own
+returns-then-alone-clause-own g c = λ told has order. alone_own c.args.shape.now c.args.segments.now _ _
+    c.args.anchor c.args.before.now c.args.after.now (c.in_ok-alone.ensures.set told c.if-alone.true) has
+
+pub returns-then-alone-clause-keep : goal.returns-then-alone-clause-keep
+returns-then-alone-clause-keep g c = λ told has order none. alone_keeps c.args.shape.now c.args.segments.now _ _
     c.args.anchor c.args.before.now c.args.after.now (c.in_ok-alone.ensures.set told c.if-alone.true) has
 
 pub returns-then-alone-clause-formed : goal.returns-then-alone-clause-formed
@@ -68,14 +86,23 @@ returns-then-alone-clause-stood g c = λ told. inr (c.in_ok-alone.ensures.set to
 
 -- ---- one segment more
 
+pub returns-in_err-more-clause-lists : goal.returns-in_err-more-clause-lists
+returns-in_err-more-clause-lists g c = λ told chain ci e.
+    let p = err_from_is_err_and c.from_residual-in_err-more.result c.from_residual-in_err-more.ensures.1 in
+    let same = c.in_ok-alone.ensures.same told c.if-alone.false in
+    lists_now chain (subst (λ a. IsAtFault c.args.shape.now a ci) same
+    (c.set_more.ensures.lists (c.set_alone.ensures.goes_on.tells told)
+    (subst (λ a. HasChain c.args.shape.now c.args.segments.now a c.args.anchor) (sym same) chain) ci
+    (cc (p.1, p.2, c.in_err-more.was))))
+
 pub returns-in_err-more-clause-sound : goal.returns-in_err-more-clause-sound
 returns-in_err-more-clause-sound g c = λ told order chain ci e.
     let p = err_from_is_err_and c.from_residual-in_err-more.result c.from_residual-in_err-more.ensures.1 in
     let same = c.in_ok-alone.ensures.same told c.if-alone.false in
-    c.set_more.ensures.sound (c.set_alone.ensures.goes_on.tells told)
-    (subst (λ a. IsInOrder c.args.shape.now a) (sym same) order)
+    in-order-sound _ _ ci order (subst (λ a. IsAtFault c.args.shape.now a ci) same
+    (c.set_more.ensures.lists (c.set_alone.ensures.goes_on.tells told)
     (subst (λ a. HasChain c.args.shape.now c.args.segments.now a c.args.anchor) (sym same) chain) ci
-    (cc (p.1, p.2, c.in_err-more.was))
+    (cc (p.1, p.2, c.in_err-more.was))))
 
 pub returns-in_err-more-clause-damaged : goal.returns-in_err-more-clause-damaged
 returns-in_err-more-clause-damaged g c = λ told none ci e.
@@ -134,7 +161,18 @@ returns-then-more-clause-apart g c = λ told has order.
     let told1 = c.set_alone.ensures.goes_on.tells told in
     let r = c.in_ok-more.ensures.refills told1 (subst (λ a. IsInOrder c.args.shape.now a) (sym same) order)
     c.if-more.true in
-    refill_apart c.args.shape.now c.args.segments.now _ _ _ c.args.anchor c.args.after.now same c.requires.anchor r
+    refill_apart c.args.shape.now c.args.segments.now _ _ _ c.args.anchor c.args.after.now same c.requires.anchor order r
+
+pub returns-then-more-clause-own : goal.returns-then-more-clause-own
+returns-then-more-clause-own g c = λ told has order.
+    let same = c.in_ok-alone.ensures.same told c.if-alone.false in
+    let told1 = c.set_alone.ensures.goes_on.tells told in
+    let r = c.in_ok-more.ensures.refills told1 (subst (λ a. IsInOrder c.args.shape.now a) (sym same) order)
+    c.if-more.true in
+    refill_own c.args.shape.now c.args.segments.now _ _ _ c.args.anchor c.args.after.now same c.requires.anchor order r
+
+pub returns-then-more-clause-keep : goal.returns-then-more-clause-keep
+returns-then-more-clause-keep g c = λ told has order none. absurd (none (c.in_ok-more.ensures.gains c.if-more.true))
 
 pub returns-then-more-clause-alone : goal.returns-then-more-clause-alone
 returns-then-more-clause-alone g c = λ told has differ.
@@ -196,6 +234,24 @@ returns-clause-apart g c = λ told has order.
     (c.store_held.ensures.apart (c.set_more.ensures.goes_on.tells told1)
     (subst (λ a. IsInOrder c.args.shape.now a) (sym same) order))
 
+pub returns-clause-own : goal.returns-clause-own
+returns-clause-own g c = λ told has order.
+    let told1 = c.set_alone.ensures.goes_on.tells told in
+    let same = c.in_ok-more.ensures.same told1 c.if-more.false ∙ c.in_ok-alone.ensures.same told c.if-alone.false in
+    subst (λ a. OnOk c.store_held.result (NewAreOwn c.args.shape.now c.args.segments.now a
+    (g.I.Intervals.intervals c.store_held.new.i) c.args.anchor)) same
+    (c.store_held.ensures.own (c.set_more.ensures.goes_on.tells told1)
+    (subst (λ a. IsInOrder c.args.shape.now a) (sym same) order))
+
+pub returns-clause-keep : goal.returns-clause-keep
+returns-clause-keep g c = λ told has order none.
+    let told1 = c.set_alone.ensures.goes_on.tells told in
+    let same = c.in_ok-more.ensures.same told1 c.if-more.false ∙ c.in_ok-alone.ensures.same told c.if-alone.false in
+    subst (λ a. OnOk c.store_held.result (KeepsElements c.args.shape.now c.args.segments.now a
+    (g.I.Intervals.intervals c.store_held.new.i) c.args.anchor c.args.after.now)) same
+    (c.store_held.ensures.keep (c.set_more.ensures.goes_on.tells told1)
+    (subst (λ a. IsInOrder c.args.shape.now a) (sym same) order))
+
 pub returns-clause-formed : goal.returns-clause-formed
 returns-clause-formed g c = λ told has formed.
     let told1 = c.set_alone.ensures.goes_on.tells told in
@@ -242,6 +298,14 @@ returns-clause-sound g c = λ told order chain ci e.
     c.store_held.ensures.sound (c.set_more.ensures.goes_on.tells told1)
     (subst (λ a. IsInOrder c.args.shape.now a) (sym same) order)
     (subst (λ a. HasChain c.args.shape.now c.args.segments.now a c.args.anchor) (sym same) chain) ci e
+
+pub returns-clause-lists : goal.returns-clause-lists
+returns-clause-lists g c = λ told chain ci e.
+    let told1 = c.set_alone.ensures.goes_on.tells told in
+    let same = c.in_ok-more.ensures.same told1 c.if-more.false ∙ c.in_ok-alone.ensures.same told c.if-alone.false in
+    subst (λ a. ListsFail c.args.shape.now c.args.segments.now a c.args.anchor ci) same
+    (c.store_held.ensures.lists (c.set_more.ensures.goes_on.tells told1)
+    (subst (λ a. HasChain c.args.shape.now c.args.segments.now a c.args.anchor) (sym same) chain) ci e)
 
 pub returns-clause-damaged : goal.returns-clause-damaged
 returns-clause-damaged g c = λ told none ci e.
