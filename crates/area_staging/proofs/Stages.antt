@@ -9,7 +9,7 @@ use Rattle.ci_pool.specs.Held.{Held, HasSize, IsClean, bytes_of, bytes_or, inter
 use Rattle.area_staging.specs.declared.extent.Extent.{Extent}
 use Rattle.area_staging.specs.Changing.{Shows, Stages}
 use Rattle.area_staging.specs.Looking.{LooksAt, looks_none}
-use Rattle.area_staging.specs.Staging.{AllPending, IsToldPool}
+use Rattle.area_staging.specs.Staging.{IsToldPool}
 use Rattle.area_staging.proofs.Looks.{same_pending, same_staged}
 
 module _ {S : Type 0} (told : S → Type 0) (disk : S → Disk) (faults holds : S → ℕ) (keeps : S → S → Type 0)
@@ -91,8 +91,3 @@ module _ {S : Type 0} (told : S → Type 0) (disk : S → Disk) (faults holds : 
         (stages.stays t).contents
         ∙ shown.newest ci below;
   }
-
-  -- and what is pending is so still
-  pub still_all : (count : ℕ) (a b : S) (p q : Held) → Stages told disk faults holds keeps set size a b p q
-      → AllPending p set count → AllPending q set count
-  still_all count a b p q stages all ci below = subst IsSome (sym (stages.pending set ci)) (all ci below)

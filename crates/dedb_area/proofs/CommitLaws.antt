@@ -1,7 +1,6 @@
 -- A commit that is staged is that of the databases.
-use Rattle.std.proofs.Common.{◌≡◌, ◌≢◌, ℕ, ◌+◌, ◌-◌, ◌*◌, ◌<◌, ◌≤◌, ◌^◌, Bool, true, false, List, length, refl, sym, ◌∙◌, ap, subst, arith}
-use Rattle.std.specs.Prelude.{None, Some, Result, Ok, Err, IfOk, OnOk}
-use Rattle.std.specs.List.{AllByRecursion}
+use Rattle.std.proofs.Common.{◌≡◌, ℕ, ◌+◌, ◌<◌, Bool, true, List, length, sym, ◌∙◌, ap, subst, arith}
+use Rattle.std.specs.Prelude.{None, Some}
 use Rattle.fp_model.specs.Commit.{FillsPart, first_full, with_anchors, with_inserts}
 use Rattle.fp_model.specs.Items.{begins_with_image}
 use Rattle.fp_model.specs.State.{areas_of, first_area_set}
@@ -23,7 +22,7 @@ use Rattle.area_laws.proofs.FormLemmas.{orders_brought}
 use Rattle.area_laws.proofs.FullLemmas.{first_is_full, none_is_full}
 use Rattle.area_laws.proofs.OrderLemmas.{changed_order, fit_changes_keep_lists, shaped_order}
 use Rattle.area_staging.specs.Items.{is_imaged}
-use Rattle.dedb_area.specs.Anchors.{AreInTime, CountsIntervals, intervals_of}
+use Rattle.dedb_area.specs.Anchors.{AreInTime, CountsIntervals}
 use Rattle.dedb_area.specs.Appending.{MayEnter}
 use Rattle.dedb_area.specs.Committing.{AreStagedUpTo, FitAreas, FitsCommit, IsFirstFull, committed}
 use Rattle.dedb_area.specs.Control.{IsControl}

@@ -22,3 +22,5 @@ pub mod Staying
 pub mod CommitLaws
 pub mod ChangedLemmas
 pub mod StageLemmas
+pub mod Fitting
+pub mod Opened

@@ -1,5 +1,5 @@
 -- Changed anchors and sequential inserts of a commit, staged.
-use Rattle.std.specs.Prelude.{◌≡◌, ◌≢◌, ◌⊎◌, ⊤, ℕ, ◌+◌, ◌-◌, ◌*◌, ◌<◌, ◌≤◌, ◌^◌, ◌||◌, Bool, true, false, List, length, IsSome, Some}
+use Rattle.std.specs.Prelude.{◌≡◌, ◌≢◌, ℕ, ◌+◌, ◌<◌, ◌≤◌, ◌||◌, Bool, true, false, List, length, IsSome, Some}
 use Rattle.std.specs.List.{AllByRecursion, list_any}
 use Rattle.fp_model.specs.declared.calls.AnchorChange.{AnchorChange}
 use Rattle.fp_model.specs.declared.calls.SeqInsert.{SeqInsert}
@@ -21,9 +21,8 @@ use Rattle.area_states.specs.Databases.{HasAnchorOf, state_of}
 use Rattle.area_states.specs.Places.{counted_by, has_anchor, layout_of, place_at}
 use Rattle.area_states.specs.States.{AreaState, HasState}
 use Rattle.state_laws.specs.Parts.{FitsAnchorChange, FitsSeqInsert, changes_ascend}
-use Rattle.area_staging.specs.declared.extent.Extent.{Extent}
 use Rattle.area_staging.specs.Changing.{AreStagedBy}
-use Rattle.area_staging.specs.Staging.{AllPending}
+use Rattle.area_staging.specs.Staging.{AllAtHand}
 use Rattle.dedb_area.specs.Anchors.{IsBegin, intervals_of}
 use Rattle.dedb_area.specs.Applying.{IsFitInterval}
 
@@ -133,11 +132,11 @@ has_insert place inserts = list_any (λ i. has_anchor place i.dedb i.anchor) ins
 abbrev pub is_concerned : Place → List AnchorChange → List SeqInsert → Bool
 is_concerned place changes inserts = has_change place changes || has_insert place inserts
 
--- each interval of the areas that a change or an insert is of waits to be written
-abbrev pub ConcernedArePending : List Place → Held → AreaBytes → List AnchorChange → List SeqInsert → Type 0
-ConcernedArePending places pool bytes changes inserts =
+-- each interval of the areas that a change or an insert is of is at hand
+abbrev pub ConcernedAreAtHand : List Place → Held → AreaBytes → List AnchorChange → List SeqInsert → Type 0
+ConcernedAreAtHand places pool bytes changes inserts =
     (set : ℕ) (place : Place) → place_at places set ≡ Some place → is_concerned place changes inserts ≡ true
-    → AllPending pool set (counted_by (Some place) (bytes set 0))
+    → AllAtHand pool set (counted_by (Some place) (bytes set 0))
 
 -- a byte at which an interval of an area begins
 pub record IsBeginIn (places : List Place) (set at : ℕ) : Type 0 where

@@ -12,7 +12,8 @@ ghost use Rattle.area_states.specs.Places.{IsPlace};
 ghost use Rattle.area_states.specs.States.{AreaState, HasState};
 ghost use Rattle.area_staging.specs.Changing.{AreWithin, Shows};
 ghost use Rattle.area_staging.specs.Looking.{LooksAt};
-ghost use Rattle.area_staging.specs.Staging.{AllPending};
+ghost use Rattle.area_staging.specs.Staging.{AllAtHand};
+ghost use Rattle.ci_pool.specs.Held.{SameAtHand};
 ghost use Rattle.dedb_area.specs.Anchors.{IsBegin};
 ghost use Rattle.dedb_area.specs.Committing.{FitsArea, HasRoomFor, IsChangedTo, committed};
 ghost use Rattle.dedb_area.specs.declared.fault.AreaFault.TheVariants as fault;
@@ -138,8 +139,9 @@ pub(crate) fn changed_intervals<T: Site>(
         → (s ≡ area.set) × ((ci : ℕ) × IsBegin place.now ci at) }
     ensures here { (s begin end n : ℕ) → result ≡ Err (fault.SeqFull s begin end n) → s ≡ area.set }
     ensures failed { IsErrOf result fault.Device → Rose (T.faults site.old) (T.faults site.new) }
-    ensures unread { AllPending pool.old area.set area.count → ReadsNothing (T.tells_reads site.old)
+    ensures unread { AllAtHand pool.old area.set area.count → ReadsNothing (T.tells_reads site.old)
         (T.tells_reads site.new) (T.bytes_read site.old) (T.bytes_read site.new) }
+    ensures hand { AllAtHand pool.old area.set area.count → SameAtHand pool.old pool.new }
     ensures looks { LooksAt T.told T.disk T.faults T.holds T.keeps area.set area.size site.old site.new pool.old
         pool.new }
 {

@@ -5,6 +5,7 @@ ghost use Rattle.std.specs.Prelude.{◌≡◌, ◌≢◌, ◌+◌, ◌-◌, ◌*
 ghost use Rattle.std.specs.List.{AllByRecursion};
 ghost use Rattle.fp_model.specs.Commit.{FillsPart, first_full, with_anchors, with_inserts};
 ghost use Rattle.fp_model.specs.ItemTargets.{is_ascending};
+ghost use Rattle.fp_model.specs.Items.{IsFit};
 ghost use Rattle.fp_model.specs.State.{areas_of, first_area_set};
 ghost use Rattle.fp_model.specs.declared.database.Db.{Db};
 ghost use Rattle.fp_model.specs.declared.definitions.Defs.{Defs as DefsOf};
@@ -20,10 +21,11 @@ ghost use Rattle.area_states.specs.States.{AreaState, HasState};
 ghost use Rattle.area_staging.specs.Changing.{AllBefore, AreStagedBy, IsFitFor, Stages, StagesItems};
 ghost use Rattle.area_staging.specs.Flags.{AreFlagged};
 ghost use Rattle.area_staging.specs.Items.{HasFlag, is_imaged};
-ghost use Rattle.area_staging.specs.Staging.{AllPending};
+ghost use Rattle.area_staging.specs.Staging.{AllAtHand};
+ghost use Rattle.ci_pool.specs.Held.{SameAtHand};
 ghost use Rattle.dedb_area.specs.Anchors.{AreInTime, CountsIntervals, IsBegin, ShowsArea, ShowsAreas, intervals_of};
 ghost use Rattle.dedb_area.specs.Appending.{MayEnter, StagesInAreas};
-ghost use Rattle.dedb_area.specs.Committing.{AreStagedUpTo, ConcernedArePending, FitAreas, FitsArea, FitsCommit, HasRoomFor, IsBeginIn, IsFirstFull, IsFitItem, MakesArea, MayStage, OnlyChanges, StagesAll, committed, has_change, has_insert, is_concerned};
+ghost use Rattle.dedb_area.specs.Committing.{AreStagedUpTo, ConcernedAreAtHand, FitAreas, FitsArea, FitsCommit, HasRoomFor, IsBeginIn, IsFirstFull, IsFitItem, MakesArea, MayStage, OnlyChanges, StagesAll, committed, has_change, has_insert, is_concerned};
 ghost use Rattle.dedb_area.specs.Standing.{AreasStand, IsUnstaged};
 ghost use Rattle.dedb_area.specs.declared.fault.AreaFault.TheVariants as fault;
 
@@ -134,9 +136,12 @@ fn stage_area<T: Site>(
     ensures failed { IsErrOf result fault.Device → Rose (T.faults site.old) (T.faults site.new) }
     ensures unread { T.told site.old → (bytes : ℕ → ListOf ℕ)
         → ShowsArea place.now set (T.disk site.old).contents pool.old bytes
-        → AllPending pool.old set (counted_by (Some place.now) (bytes 0))
+        → AllAtHand pool.old set (counted_by (Some place.now) (bytes 0))
         → ReadsNothing (T.tells_reads site.old) (T.tells_reads site.new) (T.bytes_read site.old)
         (T.bytes_read site.new) }
+    ensures hand { T.told site.old → (bytes : ℕ → ListOf ℕ)
+        → ShowsArea place.now set (T.disk site.old).contents pool.old bytes
+        → AllAtHand pool.old set (counted_by (Some place.now) (bytes 0)) → SameAtHand pool.old pool.new }
     ensures stages { Stages T.told T.disk T.faults T.holds T.keeps set place.now.shape.ci site.old site.new pool.old
         pool.new }
 {
@@ -202,9 +207,13 @@ fn stage_here<T: Site>(
     ensures unread { T.told site.old → (bytes : ℕ → ListOf ℕ)
         → ShowsArea place.now set (T.disk site.old).contents pool.old bytes
         → (is_concerned place.now changes.now inserts.now ≡ true
-        → AllPending pool.old set (counted_by (Some place.now) (bytes 0)))
+        → AllAtHand pool.old set (counted_by (Some place.now) (bytes 0)))
         → ReadsNothing (T.tells_reads site.old) (T.tells_reads site.new) (T.bytes_read site.old)
         (T.bytes_read site.new) }
+    ensures hand { T.told site.old → (bytes : ℕ → ListOf ℕ)
+        → ShowsArea place.now set (T.disk site.old).contents pool.old bytes
+        → (is_concerned place.now changes.now inserts.now ≡ true
+        → AllAtHand pool.old set (counted_by (Some place.now) (bytes 0))) → SameAtHand pool.old pool.new }
     ensures stages { Stages T.told T.disk T.faults T.holds T.keeps set place.now.shape.ci site.old site.new pool.old
         pool.new }
 {
@@ -252,9 +261,12 @@ fn stage_all<T: Site>(
     ensures failed { IsErrOf result fault.Device → Rose (T.faults site.old) (T.faults site.new) }
     ensures unread { T.told site.old → (newest : AreaBytes)
         → ShowsAreas places.now (T.disk site.old).contents pool.old newest
-        → ConcernedArePending places.now pool.old newest changes.now inserts.now
+        → ConcernedAreAtHand places.now pool.old newest changes.now inserts.now
         → ReadsNothing (T.tells_reads site.old) (T.tells_reads site.new) (T.bytes_read site.old)
         (T.bytes_read site.new) }
+    ensures hand { T.told site.old → (newest : AreaBytes)
+        → ShowsAreas places.now (T.disk site.old).contents pool.old newest
+        → ConcernedAreAtHand places.now pool.old newest changes.now inserts.now → SameAtHand pool.old pool.new }
     ensures stages { StagesAll T.told T.disk T.faults T.holds T.keeps places.now site.old site.new pool.old pool.new }
 {
     let mut items = List::new(alloc);
@@ -306,6 +318,8 @@ impl Areas {
             → AreFor self.old.places (behind way.unsealed bytes) db → FitsCommit defs db changes.now inserts.now
             → IfOk result (OnlyChanges self.old.places (behind way.unsealed bytes)) }
         ensures fit { IfOk result (AllByRecursion (IsFitItem self.old.places)) }
+        ensures defined { (defs : DefsOf) → self.old.places ≡ places_of defs
+            → IfOk result (AllByRecursion (IsFit defs)) }
         ensures in_order { IfOk result (λ items. is_ascending items ≡ true) }
         ensures flagged { IfOk result (AreFlagged self.new.imaged) }
 
@@ -329,12 +343,17 @@ impl Areas {
         ensures begins { (s at : ℕ) → result ≡ Err (fault.Damaged s at) → IsBeginIn self.old.places s at }
         ensures failed { IsErrOf result fault.Device → Rose (T.faults site.old) (T.faults site.new) }
 
-        // Where each interval of the areas concerned is pending, no byte of the site is read.
+        // Where each interval of the areas concerned is pending or clean, no byte of the site is read, and all that is at
+        // hand stays.
         ensures unread { T.told site.old → (way : Way) (bytes : AreaBytes)
             → AreasStand way bytes (T.disk site.old) self.old
-            → ConcernedArePending self.old.places self.old.pool (behind way.unsealed bytes) changes.now inserts.now
+            → ConcernedAreAtHand self.old.places self.old.pool (behind way.unsealed bytes) changes.now inserts.now
             → ReadsNothing (T.tells_reads site.old) (T.tells_reads site.new) (T.bytes_read site.old)
             (T.bytes_read site.new) }
+        ensures hand { T.told site.old → (way : Way) (bytes : AreaBytes)
+            → AreasStand way bytes (T.disk site.old) self.old
+            → ConcernedAreAtHand self.old.places self.old.pool (behind way.unsealed bytes) changes.now inserts.now
+            → SameAtHand self.old.pool self.new.pool }
 
         // After a refusal nothing is staged, and the areas stand as before.
         ensures unstaged { OnErr result (IsUnstaged self.new.pool) }

@@ -1,4 +1,4 @@
-use Rattle.std.proofs.Common.{◌≡◌, ap}
+use Rattle.std.proofs.Common.{ap}
 use Rattle.std.specs.Prelude.{Err}
 use Rattle.area_states.specs.Changes.{with_changes}
 use Rattle.dedb_area.proofs.CommitLemmas.{full_before, room_before}

@@ -1,23 +1,23 @@
-use Rattle.std.proofs.Common.{◌≡◌, ◌+◌, ◌<◌, ◌≤◌, ℕ, length, refl, sym, ◌∙◌, ap, subst, arith}
+use Rattle.std.proofs.Common.{◌≡◌, ◌+◌, ◌<◌, length, refl, sym, ◌∙◌, ap, subst, arith}
 use Rattle.std.specs.Prelude.{Some}
 use Rattle.std.proofs.lemmas.Result.{err_from_is_err_and}
 use Rattle.fp_model.specs.State.{first_area_set}
 use Rattle.root_anchor.proofs.Exits.{same_fault}
 use Rattle.area_states.specs.Databases.{state_of}
 use Rattle.area_states.specs.Places.{counted_by, place_at}
-use Rattle.area_states.specs.declared.place.Place.{Place}
 use Rattle.std.specs.List.{AllByRecursion}
 use Rattle.fp_model.specs.ItemTargets.{is_ascending}
 use Rattle.area_staging.specs.Changing.{AllBefore}
 use Rattle.area_staging.specs.Flags.{AreFlagged}
 use Rattle.area_staging.specs.Items.{is_imaged}
+use Rattle.area_staging.proofs.AtHand.{hand_then, still_at_hand}
 use Rattle.area_staging.proofs.Staged.{reads_then}
 use Rattle.dedb_area.specs.Committing.{AreStagedUpTo, IsFitItem, committed}
 use Rattle.dedb_area.proofs.AnchorLemmas.{at_number, got, state_here}
 use Rattle.dedb_area.proofs.CommitLaws.{counts_in_time}
 use Rattle.dedb_area.proofs.Data.{place_there}
 use Rattle.dedb_area.proofs.StagedAreas.{before_next_area, fit_more_items, flag_more_items, makes_as, area_more, none_yet, order_more_items}
-use Rattle.dedb_area.proofs.Staying.{all_itself, all_more, all_pending_still, all_shown}
+use Rattle.dedb_area.proofs.Staying.{all_itself, all_more, all_shown}
 use Rattle.dedb_area.proofs.committing.stage_all.Goals as goal
 
 pub loop-place-init : goal.loop-place-init
@@ -40,7 +40,8 @@ loop-place-init g c =
           c.args.inserts.now db l c.args.pool.now) (sym none)
           (none_yet places (is_imaged c.args.imaged.now.items) newest c.args.changes.now c.args.inserts.now db
           c.args.pool.now unstaged);
-      unread = λ told newest shown pending set tells. (tells, refl);
+      unread = λ told newest shown all set tells. (tells, refl);
+      hand = λ told newest shown all set ci. refl;
     }
 
 -- ---- the area at hand
@@ -137,7 +138,7 @@ returns-in_err-more-clause-begins g c = λ s at e.
     }
 
 pub returns-in_err-more-clause-unread : goal.returns-in_err-more-clause-unread
-returns-in_err-more-clause-unread g c = λ told newest shown pending.
+returns-in_err-more-clause-unread g c = λ told newest shown all.
     let inv = c.loop-place.invariant in
     let places = c.args.places.now in
     let index = c.loop-place.place-index in
@@ -149,11 +150,27 @@ returns-in_err-more-clause-unread g c = λ told newest shown pending.
     let shown1 = all_shown g.T.Site.told g.T.Site.disk g.T.Site.faults g.T.Site.holds g.T.Site.keeps places
     c.args.site.now c.loop-place.site c.args.pool.now c.loop-place.pool newest inv.stages told shown in
     reads_then g.T.Site.tells_reads g.T.Site.bytes_read c.args.site.now c.loop-place.site c.stage_here.new.site
-    (inv.unread told newest shown pending)
+    (inv.unread told newest shown all)
     (c.stage_here.ensures.unread (inv.stages.tells told) (newest set) (shown1 set place is) (λ some.
-    all_pending_still g.T.Site.told g.T.Site.disk g.T.Site.faults g.T.Site.holds g.T.Site.keeps places c.args.site.now
-    c.loop-place.site c.args.pool.now c.loop-place.pool set (counted_by (Some place) (newest set 0)) inv.stages
-    (pending set place is some)))
+    still_at_hand set (counted_by (Some place) (newest set 0)) c.args.pool.now c.loop-place.pool
+    (all set place is some) (inv.hand told newest shown all)))
+
+pub returns-in_err-more-clause-hand : goal.returns-in_err-more-clause-hand
+returns-in_err-more-clause-hand g c = λ told newest shown all.
+    let inv = c.loop-place.invariant in
+    let places = c.args.places.now in
+    let index = c.loop-place.place-index in
+    let place = c.place-item.result in
+    let set = c.loop-place.set in
+    let is : place_at places set ≡ Some place =
+    ap (place_at places) inv.here
+    ∙ at_number places index place (got places index place c.loop-place-test.true c.place-item.is) in
+    let shown1 = all_shown g.T.Site.told g.T.Site.disk g.T.Site.faults g.T.Site.holds g.T.Site.keeps places
+    c.args.site.now c.loop-place.site c.args.pool.now c.loop-place.pool newest inv.stages told shown in
+    hand_then c.args.pool.now c.loop-place.pool c.stage_here.new.pool (inv.hand told newest shown all)
+    (c.stage_here.ensures.hand (inv.stages.tells told) (newest set) (shown1 set place is) (λ some.
+    still_at_hand set (counted_by (Some place) (newest set 0)) c.args.pool.now c.loop-place.pool
+    (all set place is some) (inv.hand told newest shown all)))
 
 pub returns-in_err-more-clause-stages : goal.returns-in_err-more-clause-stages
 returns-in_err-more-clause-stages g c =
@@ -170,7 +187,7 @@ returns-in_err-more-clause-stages g c =
     c.loop-place.pool c.stage_here.new.pool is inv.stages c.stage_here.ensures.stages
 
 pub returns-in_err-append-clause-unread : goal.returns-in_err-append-clause-unread
-returns-in_err-append-clause-unread g c = λ told newest shown pending.
+returns-in_err-append-clause-unread g c = λ told newest shown all.
     let inv = c.loop-place.invariant in
     let places = c.args.places.now in
     let index = c.loop-place.place-index in
@@ -182,11 +199,27 @@ returns-in_err-append-clause-unread g c = λ told newest shown pending.
     let shown1 = all_shown g.T.Site.told g.T.Site.disk g.T.Site.faults g.T.Site.holds g.T.Site.keeps places
     c.args.site.now c.loop-place.site c.args.pool.now c.loop-place.pool newest inv.stages told shown in
     reads_then g.T.Site.tells_reads g.T.Site.bytes_read c.args.site.now c.loop-place.site c.stage_here.new.site
-    (inv.unread told newest shown pending)
+    (inv.unread told newest shown all)
     (c.stage_here.ensures.unread (inv.stages.tells told) (newest set) (shown1 set place is) (λ some.
-    all_pending_still g.T.Site.told g.T.Site.disk g.T.Site.faults g.T.Site.holds g.T.Site.keeps places c.args.site.now
-    c.loop-place.site c.args.pool.now c.loop-place.pool set (counted_by (Some place) (newest set 0)) inv.stages
-    (pending set place is some)))
+    still_at_hand set (counted_by (Some place) (newest set 0)) c.args.pool.now c.loop-place.pool
+    (all set place is some) (inv.hand told newest shown all)))
+
+pub returns-in_err-append-clause-hand : goal.returns-in_err-append-clause-hand
+returns-in_err-append-clause-hand g c = λ told newest shown all.
+    let inv = c.loop-place.invariant in
+    let places = c.args.places.now in
+    let index = c.loop-place.place-index in
+    let place = c.place-item.result in
+    let set = c.loop-place.set in
+    let is : place_at places set ≡ Some place =
+    ap (place_at places) inv.here
+    ∙ at_number places index place (got places index place c.loop-place-test.true c.place-item.is) in
+    let shown1 = all_shown g.T.Site.told g.T.Site.disk g.T.Site.faults g.T.Site.holds g.T.Site.keeps places
+    c.args.site.now c.loop-place.site c.args.pool.now c.loop-place.pool newest inv.stages told shown in
+    hand_then c.args.pool.now c.loop-place.pool c.stage_here.new.pool (inv.hand told newest shown all)
+    (c.stage_here.ensures.hand (inv.stages.tells told) (newest set) (shown1 set place is) (λ some.
+    still_at_hand set (counted_by (Some place) (newest set 0)) c.args.pool.now c.loop-place.pool
+    (all set place is some) (inv.hand told newest shown all)))
 
 pub returns-in_err-append-clause-stages : goal.returns-in_err-append-clause-stages
 returns-in_err-append-clause-stages g c =
@@ -256,15 +289,21 @@ loop-place-preserved g c =
           c.in_ok-more.ensures.fit
           (c.in_ok-more.ensures.room t1 (newest set) (shown1 set place is) (state_of place db) has
           (fits set place is));
-      unread = λ told newest shown pending.
+      unread = λ told newest shown all.
           let shown1 = all_shown g.T.Site.told g.T.Site.disk g.T.Site.faults g.T.Site.holds g.T.Site.keeps places
           c.args.site.now c.loop-place.site c.args.pool.now c.loop-place.pool newest inv.stages told shown in
           reads_then g.T.Site.tells_reads g.T.Site.bytes_read c.args.site.now c.loop-place.site c.stage_here.new.site
-          (inv.unread told newest shown pending)
+          (inv.unread told newest shown all)
           (c.stage_here.ensures.unread (inv.stages.tells told) (newest set) (shown1 set place is) (λ some.
-          all_pending_still g.T.Site.told g.T.Site.disk g.T.Site.faults g.T.Site.holds g.T.Site.keeps places c.args.site.now
-          c.loop-place.site c.args.pool.now c.loop-place.pool set (counted_by (Some place) (newest set 0)) inv.stages
-          (pending set place is some)));
+          still_at_hand set (counted_by (Some place) (newest set 0)) c.args.pool.now c.loop-place.pool
+          (all set place is some) (inv.hand told newest shown all)));
+      hand = λ told newest shown all.
+          let shown1 = all_shown g.T.Site.told g.T.Site.disk g.T.Site.faults g.T.Site.holds g.T.Site.keeps places
+          c.args.site.now c.loop-place.site c.args.pool.now c.loop-place.pool newest inv.stages told shown in
+          hand_then c.args.pool.now c.loop-place.pool c.stage_here.new.pool (inv.hand told newest shown all)
+          (c.stage_here.ensures.hand (inv.stages.tells told) (newest set) (shown1 set place is) (λ some.
+          still_at_hand set (counted_by (Some place) (newest set 0)) c.args.pool.now c.loop-place.pool
+          (all set place is some) (inv.hand told newest shown all)));
     }
 
 -- ---- all are staged

@@ -5,12 +5,13 @@ use Rattle.fp_model.specs.State.{first_area_set}
 use Rattle.fp_model.specs.declared.database.Db.{Db}
 use Rattle.fp_site.specs.Site.{ReadsNothing}
 use Rattle.area_redo.specs.Redo.{AreaBytes}
+use Rattle.ci_pool.specs.Held.{SameAtHand}
 use Rattle.area_states.specs.Databases.{AreFor}
 use Rattle.area_staging.specs.Changing.{AllBefore}
 use Rattle.area_staging.specs.Flags.{AreFlagged}
 use Rattle.area_staging.specs.Items.{is_imaged}
 use Rattle.dedb_area.specs.Anchors.{ShowsAreas}
-use Rattle.dedb_area.specs.Committing.{AreStagedUpTo, ConcernedArePending, FitAreas, IsFitItem, StagesAll}
+use Rattle.dedb_area.specs.Committing.{AreStagedUpTo, ConcernedAreAtHand, FitAreas, IsFitItem, StagesAll}
 use Rattle.dedb_area.specs.Standing.{IsUnstaged}
 use Rattle.dedb_area.proofs.committing.stage_all.Given as goal
 
@@ -34,7 +35,11 @@ invariant-loop-place g l = record {
       l.pool;
   unread : g.T.Site.told l.initial.site → (newest : AreaBytes)
       → ShowsAreas l.places (g.T.Site.disk l.initial.site).contents l.initial.pool newest
-      → ConcernedArePending l.places l.initial.pool newest l.changes l.inserts
+      → ConcernedAreAtHand l.places l.initial.pool newest l.changes l.inserts
       → ReadsNothing (g.T.Site.tells_reads l.initial.site) (g.T.Site.tells_reads l.site)
       (g.T.Site.bytes_read l.initial.site) (g.T.Site.bytes_read l.site);
+  hand : g.T.Site.told l.initial.site → (newest : AreaBytes)
+      → ShowsAreas l.places (g.T.Site.disk l.initial.site).contents l.initial.pool newest
+      → ConcernedAreAtHand l.places l.initial.pool newest l.changes l.inserts
+      → SameAtHand l.initial.pool l.pool;
 }
