@@ -1,17 +1,20 @@
 -- Keys that ascend, and sequential lists that changed roots bring.
-use Rattle.std.proofs.Common.{◌≡◌, ◌≢◌, inl, inr, ℕ, ◌+◌, ◌-◌, ◌<◌, true, false, List, [], ◌∷◌, length, map, Some, None, Option, refl, sym, ◌∙◌, ap, subst, arith}
+use Rattle.std.proofs.Common.{◌≡◌, ◌≢◌, inl, inr, ℕ, ◌+◌, ◌-◌, ◌<◌, true, false, List, [], ◌∷◌, length, map, min, Some, None, Option, refl, sym, ◌∙◌, ap, subst, arith}
 use Rattle.std.specs.Prelude.{◌&&◌, ◌==◌, slice_get, unwrap_or}
 use Rattle.std.specs.List.{AllByRecursion, list_all}
 use Rattle.std.specs.Option.{option_map_or}
 use Rattle.std.proofs.lemmas.Bool.{cases_Bool}
 use Rattle.std.proofs.lemmas.Bool.Decides.{nat_tests}
+use Rattle.fp_model.specs.Commit.{kept_from}
 use Rattle.fp_model.specs.declared.calls.AnchorChange.{AnchorChange}
+use Rattle.fp_model.specs.declared.calls.SeqInsert.{SeqInsert}
 use Rattle.fp_model.specs.declared.database.AreaEnds.{AreaEnds}
 use Rattle.fp_model.specs.declared.database.Db.{Db}
 use Rattle.fp_model.specs.declared.database.Dedb.{Dedb}
 use Rattle.fp_model.specs.declared.database.Root.{Root}
 use Rattle.fp_model.specs.declared.definitions.DedbDef.{DedbDef}
 use Rattle.fp_model.specs.declared.definitions.Defs.{Defs}
+use Rattle.fp_model.specs.declared.definitions.SegDef.{SegDef}
 use Rattle.fp_model.specs.Exits.{anchor_of}
 use Rattle.fp_model.specs.Order.{root_key}
 use Rattle.fp_model.specs.Shape.{IsDbOf, is_anchor, is_root}
@@ -20,9 +23,9 @@ use Rattle.fp_model.specs.Workspace.{change_precedes}
 use Rattle.area_states.specs.declared.place.Place.{Place}
 use Rattle.area_states.specs.Places.{has_anchor as lies_in, place_at, places_of}
 use Rattle.area_states.specs.States.{AreaState}
-use Rattle.area_states.specs.Changes.{AllKeepLists, AreOrdered, HasListOf, KeepsLists, with_change, with_changes}
+use Rattle.area_states.specs.Changes.{AllKeepLists, AreOrdered, HasListOf, KeepsLists, purged, with_change, with_changes, with_insert, with_inserts}
 use Rattle.area_states.specs.Databases.{HasAnchorOf, state_of}
-use Rattle.area_states.proofs.Changing.{in_area}
+use Rattle.area_states.proofs.Changing.{in_area, ordered_insert}
 use Rattle.state_laws.specs.Changes.{HasNoneOrNow}
 use Rattle.state_laws.specs.Parts.{FitsAnchorChange, changes_ascend}
 use Rattle.state_laws.proofs.Areas.{alone, get_contains}
@@ -82,6 +85,23 @@ changed_order place (c ∷ changes) state ordered all =
       ])
       | inr outside ↦ rw outside ordered
     ]) all.1
+
+-- inserts and a Purge change no key
+pub inserted_order : (place : Place) (inserts : List SeqInsert) (state : AreaState) → AreOrdered place state
+    → AreOrdered place (with_inserts place inserts state)
+inserted_order place [] state ordered = ordered
+inserted_order place (i ∷ inserts) state ordered =
+    inserted_order place inserts (with_insert place state i) (ordered_insert place state i ordered)
+
+kept_keys : (types : List SegDef) (begin : ℕ) (roots : List Root)
+    → map (root_key types) (map (kept_from begin) roots) ≡ map (root_key types) roots
+kept_keys types begin [] = refl
+kept_keys types begin (r ∷ roots) = ap (λ ks. root_key types r ∷ ks) (kept_keys types begin roots)
+
+pub purged_order : (place : Place) (n : ℕ) (state : AreaState) → AreOrdered place state
+    → AreOrdered place (purged n state)
+purged_order place n state ordered anchor lt =
+    ap ascend (kept_keys place.segments (min state.end (state.begin + n)) (state.roots anchor)) ∙ ordered anchor lt
 
 -- ---- lists
 

@@ -23,6 +23,12 @@ HasArea db place = place.number < area_count db place.dedb
 abbrev pub HasAreas : Db → List Place → Type 0
 HasAreas db places = (set : ℕ) (place : Place) → place_at places set ≡ Some place → HasArea db place
 
+-- the data set is an area with a sequential part
+pub record HasPart (places : List Place) (set : ℕ) : Type 0 where
+  pub place : Place
+  pub is_place : place_at places set ≡ Some place
+  pub some : 0 < place.capacity
+
 -- the area has room for all inserts that are of it
 abbrev pub TakesAll : Db → List SeqInsert → Place → Type 0
 TakesAll db inserts place = 0 < count_of place inserts → HasRoom place (state_of place db) (count_of place inserts)

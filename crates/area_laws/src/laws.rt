@@ -1,6 +1,6 @@
 //! Laws of areas and databases, each the contract of a function that does nothing.
 
-ghost use Rattle.std.specs.Prelude.{◌≡◌, ◌≢◌, ◌<◌, ℕ, List, None, Some, false, true};
+ghost use Rattle.std.specs.Prelude.{◌≡◌, ◌≢◌, ◌<◌, ℕ, IsSome, List, None, Some, false, true};
 ghost use Rattle.std.specs.List.{AllByRecursion};
 ghost use Rattle.fp_model.specs.declared.calls.AnchorChange.{AnchorChange};
 ghost use Rattle.fp_model.specs.declared.calls.SeqInsert.{SeqInsert};
@@ -17,7 +17,7 @@ ghost use Rattle.area_states.specs.Databases.{AreFor, HasAnchorOf, area_in, stat
 ghost use Rattle.area_states.specs.Places.{ArePlaces, IsPlace, has_anchor, layout_of, place_at, places_of};
 ghost use Rattle.area_states.specs.States.{AreaState, HasState, SameState};
 ghost use Rattle.state_laws.specs.Parts.{FitsAnchorChange, FitsSeqInsert, changes_ascend};
-ghost use Rattle.area_laws.specs.Areas.{BringsOrder, HasArea, HasAreas, TakesAll};
+ghost use Rattle.area_laws.specs.Areas.{BringsOrder, HasArea, HasAreas, HasPart, TakesAll};
 ghost use Rattle.area_laws.specs.Starts.{AreStarts, IsStart, start_state};
 
 /// Changed anchors and sequential inserts make of an area what they make of the databases that it stands for. So where
@@ -68,6 +68,14 @@ pub fn a_purge_is_that_of_the_databases()
         → ((other : ℕ) (place : Place) → other ≢ set → place_at (places_of defs) other ≡ Some place
         → HasState place (area_in (layout_of (places_of defs)) bytes other) (state_of place db))
         → AreFor (places_of defs) bytes new }
+
+    // There are databases behind it exactly where the data set is an area with a sequential part.
+    ensures some { (defs : Defs) (set n : ℕ) (db : Db)
+        → HasPart (places_of defs) set
+        → IsSome (purged defs set n db) }
+    ensures none { (defs : Defs) (set n : ℕ) (db : Db)
+        → ¬ HasPart (places_of defs) set
+        → purged defs set n db ≡ None }
 {}
 
 /// The area that is too full for the inserts of a commit is the first whose part has no room for those of them that are
@@ -130,7 +138,7 @@ pub fn good_definitions_give_places()
 {}
 
 /// In databases with the shape of their definitions the keys of each anchor's roots ascend. They do so still behind
-/// changes that bring roots in order.
+/// changes that bring roots in order, behind sequential inserts, and behind a Purge.
 pub fn roots_are_in_order()
     ensures shaped { (defs : Defs) (set : ℕ) (place : Place) (db : Db)
         → IsDbOf defs db
@@ -140,6 +148,12 @@ pub fn roots_are_in_order()
         → AreOrdered place state
         → AllByRecursion (BringsOrder place) changes
         → AreOrdered place (with_changes place changes state) }
+    ensures inserted { (place : Place) (inserts : List SeqInsert) (state : AreaState)
+        → AreOrdered place state
+        → AreOrdered place (with_inserts_here place inserts state) }
+    ensures purged { (place : Place) (n : ℕ) (state : AreaState)
+        → AreOrdered place state
+        → AreOrdered place (purged_state n state) }
 {}
 
 /// Changed anchors that fit the databases and ascend bring to each root no sequential list, or one that a root of the
