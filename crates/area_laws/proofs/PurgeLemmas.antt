@@ -216,7 +216,7 @@ placed_own d [] rest places later k area e = later k area e
 placed_own d (a ∷ own) rest places later zero area e = (d, ap (λ x. Some (place_of d x)) (some_is a area e))
 placed_own d (a ∷ own) rest places later (suc k) area e = placed_own d own rest places later k area e
 
-placed_among : (dedb : ℕ) (ds : List DedbDef) (k : ℕ) (area : Area) → slice_get (areas_of_all dedb ds) k ≡ Some area
+pub placed_among : (dedb : ℕ) (ds : List DedbDef) (k : ℕ) (area : Area) → slice_get (areas_of_all dedb ds) k ≡ Some area
     → (def : DedbDef) × (slice_get (places_from dedb ds) k ≡ Some (place_of def area))
 placed_among dedb [] k area e = absurd (none_is_not_some area e)
 placed_among dedb (d ∷ ds) k area e =

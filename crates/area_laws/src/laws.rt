@@ -115,6 +115,21 @@ pub fn databases_have_each_area()
         → HasAreas new places }
 {}
 
+/// An anchor of databases with the shape of their definitions lies in just one area.
+pub fn an_anchor_lies_in_one_area()
+    ensures some { (defs : Defs) (db : Db) (c : AnchorChange)
+        → IsDbOf defs db
+        → HasAnchorOf db c
+        → (set : ℕ) × (place : Place) × (place_at (places_of defs) set ≡ Some place)
+        × (has_anchor place c.dedb c.anchor ≡ true) }
+    ensures one { (defs : Defs) (set other : ℕ) (place next : Place) (dedb anchor : ℕ)
+        → place_at (places_of defs) set ≡ Some place
+        → place_at (places_of defs) other ≡ Some next
+        → has_anchor place dedb anchor ≡ true
+        → has_anchor next dedb anchor ≡ true
+        → set ≡ other }
+{}
+
 /// An area as it starts is whole and has no roots, and its sequential part never had a segment. So where each area
 /// starts, their bytes stand for the databases before any transaction.
 pub fn formatted_areas_stand_for_the_start()
