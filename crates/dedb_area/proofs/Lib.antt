@@ -24,3 +24,5 @@ pub mod ChangedLemmas
 pub mod StageLemmas
 pub mod Fitting
 pub mod Opened
+pub mod Ones
+pub mod PurgeDatabases

@@ -1,12 +1,14 @@
 //! Changed anchors and sequential inserts of a commit are staged: in each area, one after another, the intervals that they
 //! change, each with its item.
 
-ghost use Rattle.std.specs.Prelude.{◌≡◌, ◌≢◌, ◌+◌, ◌-◌, ◌*◌, ◌<◌, ◌≤◌, ◌^◌, ℕ, List as ListOf, Err, None, Ok, Some, IfOk, IsErrOf, IsSome, OnErr, OnOk, length, true, false};
+ghost use Rattle.std.specs.Prelude.{◌≡◌, ◌≢◌, ◌+◌, ◌-◌, ◌*◌, ◌<◌, ◌≤◌, ◌^◌, ◌∷◌, [], ℕ, List as ListOf, Err, None, Ok, Some, IfOk, IsErrOf, IsSome, OnErr, OnOk, length, true, false};
 ghost use Rattle.std.specs.List.{AllByRecursion};
 ghost use Rattle.fp_model.specs.Commit.{FillsPart, first_full, with_anchors, with_inserts};
 ghost use Rattle.fp_model.specs.ItemTargets.{is_ascending};
 ghost use Rattle.fp_model.specs.Items.{IsFit};
-ghost use Rattle.fp_model.specs.State.{areas_of, first_area_set};
+ghost use Rattle.fp_model.specs.State.{areas_of, first_area_set, roots_at};
+ghost use Rattle.fp_model.specs.declared.calls.AnchorChange.{AnchorChange as ChangeOf};
+ghost use Rattle.root_changes.specs.Differing.{RootsDiffer};
 ghost use Rattle.fp_model.specs.declared.database.Db.{Db};
 ghost use Rattle.fp_model.specs.declared.definitions.Defs.{Defs as DefsOf};
 ghost use Rattle.fp_site.specs.Site.{ReadsNothing};
@@ -25,7 +27,7 @@ ghost use Rattle.area_staging.specs.Staging.{AllAtHand};
 ghost use Rattle.ci_pool.specs.Held.{SameAtHand};
 ghost use Rattle.dedb_area.specs.Anchors.{AreInTime, CountsIntervals, IsBegin, ShowsArea, ShowsAreas, intervals_of};
 ghost use Rattle.dedb_area.specs.Appending.{MayEnter, StagesInAreas};
-ghost use Rattle.dedb_area.specs.Committing.{AreStagedUpTo, ConcernedAreAtHand, FitAreas, FitsArea, FitsCommit, HasRoomFor, IsBeginIn, IsFirstFull, IsFitItem, MakesArea, MayStage, OnlyChanges, StagesAll, committed, has_change, has_insert, is_concerned};
+ghost use Rattle.dedb_area.specs.Committing.{AreStagedUpTo, ChangesOneSegment, ConcernedAreAtHand, FitAreas, FitsArea, FitsCommit, HasRoomFor, IsBeginIn, IsFirstFull, IsFitItem, MakesArea, MayStage, OneSegmentChanges, OnlyChanges, StagesAll, committed, has_change, has_insert, is_concerned};
 ghost use Rattle.dedb_area.specs.Standing.{AreasStand, IsUnstaged};
 ghost use Rattle.dedb_area.specs.declared.fault.AreaFault.TheVariants as fault;
 
@@ -115,6 +117,11 @@ fn stage_area<T: Site>(
         → ShowsArea place.now set (T.disk site.old).contents pool.old bytes
         → (state : AreaState) → HasState place.now (intervals_of place.now bytes) state
         → FitsArea place.now state changes.now → OnOk result (HasRoomFor place.now state inserts.now) }
+    ensures one { T.told site.old → (bytes : ℕ → ListOf ℕ)
+        → ShowsArea place.now set (T.disk site.old).contents pool.old bytes
+        → (state : AreaState) → HasState place.now (intervals_of place.now bytes) state
+        → FitsArea place.now state changes.now → ChangesOneSegment place.now state changes.now inserts.now
+        → is_concerned place.now changes.now inserts.now ≡ true → IfOk result (λ items. length items ≡ 1) }
     ensures fit { IfOk result (AllByRecursion (IsFitFor set place.now.shape.ci)) }
     ensures in_order { IfOk result (λ items. is_ascending items ≡ true) }
     ensures flagged { IfOk result (AreFlagged imaged.new.items) }
@@ -185,6 +192,12 @@ fn stage_here<T: Site>(
         → ShowsArea place.now set (T.disk site.old).contents pool.old bytes
         → (state : AreaState) → HasState place.now (intervals_of place.now bytes) state
         → FitsArea place.now state changes.now → OnOk result (HasRoomFor place.now state inserts.now) }
+    ensures one { T.told site.old → (bytes : ℕ → ListOf ℕ)
+        → ShowsArea place.now set (T.disk site.old).contents pool.old bytes
+        → (state : AreaState) → HasState place.now (intervals_of place.now bytes) state
+        → FitsArea place.now state changes.now → ChangesOneSegment place.now state changes.now inserts.now
+        → is_concerned place.now changes.now inserts.now ≡ true → IfOk result (λ items. length items ≡ 1) }
+    ensures none { is_concerned place.now changes.now inserts.now ≡ false → IfOk result (λ items. items ≡ []) }
     ensures fit { IfOk result (AllByRecursion (IsFitFor set place.now.shape.ci)) }
     ensures in_order { IfOk result (λ items. is_ascending items ≡ true) }
     ensures flagged { IfOk result (AreFlagged imaged.new.items) }
@@ -243,6 +256,10 @@ fn stage_all<T: Site>(
         → IsUnstaged pool.old → FitAreas places.now db changes.now
         → IfOk result (λ items. AreStagedUpTo places.now (length places.now) (is_imaged imaged.old.items) newest
         changes.now inserts.now db items pool.new) }
+    ensures one { T.told site.old → (newest : AreaBytes) (db : Db)
+        → ShowsAreas places.now (T.disk site.old).contents pool.old newest → AreFor places.now newest db
+        → FitAreas places.now db changes.now → OneSegmentChanges places.now db changes.now inserts.now
+        → IfOk result (λ items. length items ≡ 1) }
     ensures fit { IfOk result (AllByRecursion (IsFitItem places.now)) }
     ensures in_order { IfOk result (λ items. is_ascending items ≡ true) }
     ensures flagged { IfOk result (AreFlagged imaged.new.items) }
@@ -322,6 +339,13 @@ impl Areas {
             → IfOk result (AllByRecursion (IsFit defs)) }
         ensures in_order { IfOk result (λ items. is_ascending items ≡ true) }
         ensures flagged { IfOk result (AreFlagged self.new.imaged) }
+
+        // Where one segment changes alone, of one anchor, there is one item in all.
+        ensures one { T.told site.old → (way : Way) (bytes : AreaBytes) (defs : DefsOf) (db : Db) (c : ChangeOf)
+            → AreasStand way bytes (T.disk site.old) self.old → self.old.places ≡ places_of defs
+            → AreFor self.old.places (behind way.unsealed bytes) db → FitsCommit defs db changes.now inserts.now
+            → changes.now ≡ c ∷ [] → inserts.now ≡ [] → RootsDiffer (roots_at db c.dedb c.anchor) c.roots
+            → IfOk result (λ items. length items ≡ 1) }
 
         // It is full exactly where the databases say so.
         ensures full { T.told site.old → (way : Way) (bytes : AreaBytes) (defs : DefsOf) (db : Db)

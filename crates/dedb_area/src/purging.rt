@@ -8,7 +8,11 @@ ghost use Rattle.ci_space.specs.Interval.{is_size};
 ghost use Rattle.held_intervals.specs.Holding.{held_or};
 ghost use Rattle.seq_dependents.specs.Control.{IsControl};
 ghost use Rattle.area_states.specs.Changes.{purged};
-ghost use Rattle.area_redo.specs.Redo.{AreaBytes};
+ghost use Rattle.area_redo.specs.Redo.{AreaBytes, redone};
+ghost use Rattle.area_states.specs.Databases.{AreFor};
+ghost use Rattle.fp_model.specs.Commit.{purged as purged_databases};
+ghost use Rattle.fp_model.specs.Shape.{IsDbOf};
+ghost use Rattle.fp_model.specs.declared.database.Db.{Db};
 ghost use Rattle.area_redo.specs.Standing.{Way, behind};
 ghost use Rattle.area_states.specs.Places.{IsPlace, counted_by, place_at, places_of};
 ghost use Rattle.area_states.specs.States.{AreaState, HasState};
@@ -210,6 +214,14 @@ impl Areas {
         ensures enters { T.told site.old → (way : Way) (bytes : AreaBytes)
             → AreasStand way bytes (T.disk site.old) self.old
             → IfOk result (λ item. MayEnter way bytes self.old (items_in item)) }
+
+        // The item makes of the newest bytes those of the databases behind the Purge.
+        ensures databases { T.told site.old → (way : Way) (bytes : AreaBytes) (defs : DefsOf) (db behind_it : Db)
+            → AreasStand way bytes (T.disk site.old) self.old → self.old.places ≡ places_of defs
+            → AreFor self.old.places (behind way.unsealed bytes) db → IsDbOf defs db
+            → purged_databases defs set n db ≡ Some behind_it
+            → IfOk result (λ item. AreFor self.old.places (redone (items_in item) (behind way.unsealed bytes))
+            behind_it) }
 
         // When it refuses.
         ensures damaged { T.told site.old → (way : Way) (bytes : AreaBytes) (place : PlaceOf) (s at : ℕ)

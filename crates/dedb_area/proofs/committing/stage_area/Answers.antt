@@ -1,10 +1,12 @@
-use Rattle.std.proofs.Common.{◌∙◌, sym, subst}
+use Rattle.std.proofs.Common.{◌≡◌, ◌∙◌, ◌≤◌, length, sym, subst, true}
+use Rattle.std.specs.List.{AllByRecursion}
+use Rattle.fp_model.specs.ItemTargets.{is_ascending}
 use Rattle.std.specs.Ordering.{nat_cmp}
 use Rattle.std.specs.BTreeMap.{get}
 use Rattle.std.proofs.lemmas.Result.{err_from_is_err_and}
 use Rattle.ci_pool.specs.Held.{held_at}
 use Rattle.root_anchor.proofs.Exits.{same_fault}
-use Rattle.area_staging.specs.Changing.{MakeChanges, StagesItems}
+use Rattle.area_staging.specs.Changing.{IsFitFor, MakeChanges, StagesItems}
 use Rattle.area_staging.specs.Items.{is_imaged}
 use Rattle.area_staging.specs.Staging.{AllAtHand}
 use Rattle.area_staging.proofs.AtHand.{hand_then, still_at_hand}
@@ -15,7 +17,8 @@ use Rattle.area_staging.proofs.Stages.{stages_looked, stages_then}
 use Rattle.dedb_area.specs.Committing.{MakesArea, committed}
 use Rattle.dedb_area.proofs.AnchorLemmas.{begin_first, by_ok, some_counted, still_shown}
 use Rattle.dedb_area.proofs.CommitLemmas.{makes_area}
-use Rattle.dedb_area.proofs.StageLemmas.{given_ok, has_extent, on_ok, shows_extent, stages_behind}
+use Rattle.dedb_area.proofs.Ones.{at_most_one, just_one, ok_three}
+use Rattle.dedb_area.proofs.StageLemmas.{given_ok, has_extent, ok_both, on_ok, shows_extent, stages_behind}
 use Rattle.dedb_area.proofs.committing.stage_area.Goals as goal
 
 -- ---- control doesn't count
@@ -156,6 +159,39 @@ returns-clause-made g c = λ told bytes shown state has fits.
     (λ items made. makes_area place c.args.set count (is_imaged c.args.imaged.now.items c.args.set) bytes
     (committed place c.args.changes.now c.args.inserts.now state) (get nat_cmp c.in_ok-changed.changed) items from made
     to))
+
+pub returns-clause-one : goal.returns-clause-one
+returns-clause-one g c = λ told bytes shown state has fits one concerned.
+    let place = c.args.place.now in
+    let count = c.in_ok-count.count in
+    let imaged = is_imaged c.args.imaged.now.items c.args.set in
+    let looks = c.counted.ensures.looks in
+    let looks2 = c.changed_intervals.ensures.looks in
+    let shown1 = still_shown g.T.Site.told g.T.Site.disk g.T.Site.faults g.T.Site.holds g.T.Site.keeps place c.args.set
+    bytes c.args.site.now c.counted.new.site c.args.pool.now c.counted.new.pool looks told shown in
+    let shown2 = still_shown g.T.Site.told g.T.Site.disk g.T.Site.faults g.T.Site.holds g.T.Site.keeps place c.args.set
+    bytes c.counted.new.site c.changed_intervals.new.site c.counted.new.pool c.changed_intervals.new.pool looks2
+    (looks.tells told) shown1 in
+    let from = c.in_ok-count.ensures.count told bytes shown in
+    let to = c.in_ok-changed.ensures.one (looks.tells told) bytes
+    (shows_extent place c.args.set count _ c.counted.new.pool bytes from shown1) state
+    (has_extent place count bytes state from has) fits one in
+    let most = given_ok c.given_items.result c.stage_changed-staged.result (λ items. length items ≤ 1)
+    c.given_items.ensures.same
+    (ok_three c.stage_changed-staged.result
+    (MakeChanges c.args.set count imaged bytes (get nat_cmp c.in_ok-changed.changed))
+    (AllByRecursion (IsFitFor c.args.set place.shape.ci)) (λ items. is_ascending items ≡ true)
+    (λ items. length items ≤ 1)
+    (c.stage_changed-staged.ensures.made (looks2.tells (looks.tells told)) bytes
+    (shows_extent place c.args.set count _ c.changed_intervals.new.pool bytes from shown2))
+    c.stage_changed-staged.ensures.fit c.stage_changed-staged.ensures.in_order
+    (λ items made fit up. at_most_one c.args.set count place.shape.ci imaged bytes
+    (get nat_cmp c.in_ok-changed.changed) items made to fit up)) in
+    ok_both c.given_items.result (λ items. length items ≤ 1)
+    (MakesArea place c.args.set imaged bytes (committed place c.args.changes.now c.args.inserts.now state))
+    (λ items. length items ≡ 1) most (returns-clause-made g c told bytes shown state has fits)
+    (λ items few makes. just_one place c.args.set imaged bytes c.args.changes.now c.args.inserts.now state has one
+    concerned items few makes)
 
 pub returns-clause-staged : goal.returns-clause-staged
 returns-clause-staged g c = λ told bytes shown.

@@ -16,7 +16,7 @@ use Rattle.dedb_area.specs.Appending.{MayEnter, StagesInAreas}
 use Rattle.dedb_area.specs.Committing.{AreStagedUpTo, ConcernedAreAtHand, FitsCommit, IsBeginIn, IsFitItem, MayStage, OnlyChanges, StagesAll}
 use Rattle.dedb_area.specs.Standing.{AreasStand, Holding}
 use Rattle.dedb_area.proofs.AnchorLemmas.{shows}
-use Rattle.dedb_area.proofs.CommitLaws.{fills_first, fit_areas, for_committed, may_enter, none_full}
+use Rattle.dedb_area.proofs.CommitLaws.{fills_first, fit_areas, for_committed, may_enter, none_full, one_segment}
 use Rattle.dedb_area.proofs.Fitting.{defined_items}
 use Rattle.dedb_area.proofs.StageLemmas.{same_err}
 use Rattle.dedb_area.proofs.Staying.{drop_stages, drop_stands, stages_areas}
@@ -118,6 +118,28 @@ returns-in-Ok-clause-enters g c = λ told way bytes defs db stands e are fits.
     subst (λ (h : Holding). MayEnter way bytes h c.in-Ok.items) c.self.view_is
     (may_enter way bytes (g.T.Site.disk c.args.site.now) _ changes inserts db c.in-Ok.items c.stage_all.new.pool now
     all2)
+
+pub returns-in-Ok-clause-one : goal.returns-in-Ok-clause-one
+returns-in-Ok-clause-one g c = λ told way bytes defs db change stands e are fits only none differs.
+    let places = c.deref-places.result.now in
+    let value = c.deref-places.ensures.value in
+    let newest = behind way.unsealed bytes in
+    let now = subst (λ (h : Holding). AreasStand way bytes (g.T.Site.disk c.args.site.now) h) (sym c.self.view_is)
+    stands in
+    let shown = subst (λ ps. ShowsAreas ps (g.T.Site.disk c.args.site.now).contents c.self.inside.pool newest) (sym value)
+    (shows way bytes (g.T.Site.disk c.args.site.now) _ now) in
+    let are2 = subst (λ ps. AreFor ps newest db) (sym value)
+    (subst (λ (h : Holding). AreFor h.places newest db) (sym c.self.view_is) are) in
+    let e2 : places ≡ places_of defs =
+    value ∙ subst (λ (h : Holding). h.places ≡ places_of defs) (sym c.self.view_is) e in
+    let changes = c.as_slice.result.now in
+    let inserts = c.as_slice-2.result.now in
+    let fits2 = subst (λ x. FitsCommit defs db x inserts) (sym c.as_slice.ensures)
+    (subst (FitsCommit defs db c.args.changes.now) (sym c.as_slice-2.ensures) fits) in
+    let fit = fit_areas defs places db changes inserts e2 fits2 in
+    c.in-Ok.ensures.one told newest db shown are2 fit
+    (one_segment defs places db changes inserts change e2 fits2 (c.as_slice.ensures ∙ only)
+    (c.as_slice-2.ensures ∙ none) differs)
 
 pub returns-in-Ok-clause-other : goal.returns-in-Ok-clause-other
 returns-in-Ok-clause-other g c = λ told way bytes defs db stands e are fits.
