@@ -1,11 +1,13 @@
 //! Laws of areas and databases, each the contract of a function that does nothing.
 
-ghost use Rattle.std.specs.Prelude.{◌≡◌, ◌≢◌, ◌<◌, ℕ, IsSome, List, None, Some, false, true};
+ghost use Rattle.std.specs.Prelude.{◌≡◌, ◌≢◌, ◌+◌, ◌<◌, ℕ, IsSome, List, None, Some, false, slice_get, true};
 ghost use Rattle.std.specs.List.{AllByRecursion};
 ghost use Rattle.fp_model.specs.declared.calls.AnchorChange.{AnchorChange};
 ghost use Rattle.fp_model.specs.declared.calls.SeqInsert.{SeqInsert};
 ghost use Rattle.fp_model.specs.declared.database.Db.{Db};
+ghost use Rattle.fp_model.specs.declared.definitions.DedbDef.{DedbDef};
 ghost use Rattle.fp_model.specs.declared.definitions.Defs.{Defs};
+ghost use Rattle.root_anchor.specs.Chains.{anchor_count};
 ghost use Rattle.fp_model.specs.Commit.{FillsPart, first_full, purged, with_anchors, with_inserts};
 ghost use Rattle.fp_model.specs.Shape.{IsDbOf};
 ghost use Rattle.fp_model.specs.State.{areas_of, first_area_set, start};
@@ -17,7 +19,7 @@ ghost use Rattle.area_states.specs.Databases.{AreFor, HasAnchorOf, area_in, stat
 ghost use Rattle.area_states.specs.Places.{ArePlaces, IsPlace, has_anchor, layout_of, place_at, places_of};
 ghost use Rattle.area_states.specs.States.{AreaState, HasState, SameState};
 ghost use Rattle.state_laws.specs.Parts.{FitsAnchorChange, FitsSeqInsert, changes_ascend};
-ghost use Rattle.area_laws.specs.Areas.{BringsOrder, HasArea, HasAreas, HasPart, TakesAll};
+ghost use Rattle.area_laws.specs.Areas.{AreSentTo, BringsOrder, HasArea, HasAreas, HasPart, TakesAll};
 ghost use Rattle.area_laws.specs.Starts.{AreStarts, IsStart, start_state};
 
 /// Changed anchors and sequential inserts make of an area what they make of the databases that it stands for. So where
@@ -169,6 +171,17 @@ pub fn roots_are_in_order()
     ensures purged { (place : Place) (n : ℕ) (state : AreaState)
         → AreOrdered place state
         → AreOrdered place (purged_state n state) }
+{}
+
+/// In databases with the shape of their definitions each root's key is one that the randomizer sends to its anchor.
+#[tactic(auto, using(crate::proofs::OrderLemmas::shaped_keys))]
+pub fn roots_lie_where_their_keys_send_them()
+    ensures { (defs : Defs) (set : ℕ) (place : Place) (db : Db) (def : DedbDef) (number : ℕ)
+        → IsDbOf defs db
+        → place_at (places_of defs) set ≡ Some place
+        → slice_get defs.dedbs place.dedb ≡ Some def
+        → number < anchor_count place.shape
+        → AreSentTo def (place.first_anchor + number) ((state_of place db).roots number) }
 {}
 
 /// Changed anchors that fit the databases and ascend bring to each root no sequential list, or one that a root of the

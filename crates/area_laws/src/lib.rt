@@ -16,5 +16,5 @@ pub use laws::{
     an_area_that_nothing_is_of_keeps_its_state, changed_anchors_keep_the_ends,
     changes_that_fit_keep_lists, changes_that_fit_may_be_stored, databases_have_each_area,
     formatted_areas_stand_for_the_start, good_definitions_give_places, inserts_that_fit_may_be_put,
-    roots_are_in_order,
+    roots_are_in_order, roots_lie_where_their_keys_send_them,
 };

@@ -4,15 +4,14 @@ use Rattle.std.specs.Prelude.{Option, Some, None, IsSome}
 use Rattle.std.proofs.lemmas.Bool.{cases_eq, cases_lt}
 use Rattle.fp_site.specs.Disk.{Disk, IsLawful}
 use Rattle.fp_site.specs.Site.{ReadsNothing}
-use Rattle.ci_pool.specs.declared.cell.Waiting.{Waiting}
 use Rattle.ci_pool.specs.Cells.{cell_at}
-use Rattle.ci_pool.specs.Held.{Held, SameAtHand, held_at, waiting_of, pending_at, bytes_of, bytes_or, interval_in, newest_in}
+use Rattle.ci_pool.specs.Held.{Held, SameAtHand, held_at, waiting_of, bytes_of, bytes_or, interval_in, newest_in}
 use Rattle.held_intervals.specs.Holding.{Changes, held_or, listed, Fit}
 use Rattle.held_intervals.proofs.Holds.{listed_same, fit_put, fit_more}
 use Rattle.area_staging.specs.Looking.{LooksAt}
 use Rattle.area_staging.specs.Staging.{staged_or_newest, staged_area, IsToldPool, Grows, AllAtHand}
 use Rattle.area_staging.proofs.Data.{there}
-use Rattle.area_staging.proofs.Looks.{looks_then, looks_as, same_pending}
+use Rattle.area_staging.proofs.Looks.{looks_then, looks_as}
 
 -- ---- one interval
 

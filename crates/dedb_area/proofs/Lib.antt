@@ -26,3 +26,4 @@ pub mod Fitting
 pub mod Opened
 pub mod Ones
 pub mod PurgeDatabases
+pub mod Sent

@@ -12,6 +12,10 @@ ghost use Rattle.ci_pool.specs.declared.pool.Owed.TheVariants as owed;
 ghost use Rattle.area_redo.specs.Redo.{AreaBytes};
 ghost use Rattle.area_redo.specs.Standing.{Way, sealed_of, behind};
 ghost use Rattle.fp_model.specs.declared.database.Db.{Db};
+ghost use Rattle.fp_model.specs.declared.definitions.DedbDef.{DedbDef as DedbDefOf};
+ghost use Rattle.fp_model.specs.declared.definitions.Defs.{Defs as DefsOf};
+ghost use Rattle.fp_model.specs.Shape.{IsDbOf};
+ghost use Rattle.area_laws.specs.Areas.{AreSentTo};
 ghost use Rattle.area_states.specs.Databases.{AreFor};
 ghost use Rattle.dedb_area.specs.Anchors.{AnchorIsAtHand, AreInTime, AreRootsOf, HasAnchorIn, IsDamagedFor};
 ghost use Rattle.dedb_area.specs.Control.{ends_in, IsControlOf};
@@ -153,6 +157,12 @@ impl Areas {
             → AreasStand way bytes (T.disk site.old) self.old
             → AreFor self.old.places (behind way.unsealed bytes) db
             → IfOk result (λ roots. roots ≡ roots_at db dedb anchor) }
+
+        // Where the databases have the shape of the definitions, each root's key is one that is sent to this anchor.
+        ensures sent { T.told site.old → (way : Way) (bytes : AreaBytes) (defs : DefsOf) (db : Db) (def : DedbDefOf)
+            → AreasStand way bytes (T.disk site.old) self.old → self.old.places ≡ places_of defs
+            → AreFor self.old.places (behind way.unsealed bytes) db → IsDbOf defs db
+            → slice_get defs.dedbs dedb ≡ Some def → IfOk result (AreSentTo def anchor) }
 
         // The interval that it names is at fault, and where the bytes stand for databases there is none.
         ensures damaged { T.told site.old → (way : Way) (bytes : AreaBytes)

@@ -1,11 +1,10 @@
-use Rattle.std.proofs.Common.{rules, inl, inr, ℕ, ◌<◌, ◌≤◌, List, length, refl, sym, ◌∙◌, ◌≡◌, ap, subst, arith}
-use Rattle.std.specs.Prelude.{IsSome, None, Some}
+use Rattle.std.proofs.Common.{rules, ℕ, ◌<◌, List, length, sym, ◌∙◌, ◌≡◌, ap, subst, arith}
+use Rattle.std.specs.Prelude.{None, Some}
 use Rattle.std.specs.Ordering.{nat_cmp}
 use Rattle.std.specs.BTreeMap.{get}
-use Rattle.std.proofs.lemmas.Bool.{cases_eq}
 use Rattle.std.proofs.lemmas.Bool.Decides.{nat_tests}
 use Rattle.area_staging.specs.Changing.{MakeChanges}
-use Rattle.area_staging.specs.Items.{HasFlag, is_imaged, items_in}
+use Rattle.area_staging.specs.Items.{is_imaged}
 use Rattle.area_staging.proofs.Data.{sized_newest}
 use Rattle.area_staging.proofs.Stages.{stages_then, still_shows}
 use Rattle.area_staging.proofs.AtHand.{hand_then, still_at_hand}

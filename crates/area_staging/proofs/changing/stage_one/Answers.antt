@@ -1,5 +1,5 @@
 use Rattle.std.proofs.Common.{◌≡◌, ◌∙◌, length, sym, ap, subst}
-use Rattle.std.specs.Prelude.{if◌then◌else◌, ◌==◌, ◌&&◌, Some}
+use Rattle.std.specs.Prelude.{Some}
 use Rattle.ci_pool.specs.Held.{Held, staged_at}
 use Rattle.area_staging.specs.Changing.{IsItemFor}
 use Rattle.area_staging.specs.Items.{is_imaged}

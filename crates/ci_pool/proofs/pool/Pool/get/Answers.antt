@@ -1,5 +1,5 @@
 use Rattle.std.proofs.Common.{◌≡◌, ℕ, ◌*◌, List, None, length, sym, subst, ◌∙◌, ap}
-use Rattle.std.specs.Prelude.{option_copied, Contains}
+use Rattle.std.specs.Prelude.{Contains}
 use Rattle.std.specs.Map.{lookup}
 use Rattle.lru.specs.LruCache.{LruCache}
 use Rattle.fp_site.specs.Disk.{read_range}

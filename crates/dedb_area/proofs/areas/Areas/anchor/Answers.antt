@@ -1,15 +1,17 @@
-use Rattle.std.proofs.Common.{◌≡◌, sym, subst}
+use Rattle.std.proofs.Common.{◌≡◌, ◌∙◌, ap, sym, subst}
 use Rattle.std.specs.Prelude.{Some, IfOk}
 use Rattle.fp_model.specs.State.{roots_at}
 use Rattle.fp_site.specs.Site.{ReadsNothing}
 use Rattle.area_redo.specs.Standing.{behind}
 use Rattle.ci_pool.specs.Held.{SameAtHand}
 use Rattle.area_states.specs.Databases.{AreFor}
-use Rattle.area_states.specs.Places.{place_at}
+use Rattle.area_states.specs.Places.{place_at, places_of}
+use Rattle.area_laws.specs.Areas.{AreSentTo}
 use Rattle.dedb_area.specs.Anchors.{AnchorIsAtHand, AreInTime, AreRootsOf, HasAnchorIn, IsDamagedFor}
 use Rattle.dedb_area.specs.Looking.{LooksAtAreas}
 use Rattle.dedb_area.specs.Standing.{AreasStand, Holding}
 use Rattle.dedb_area.proofs.AnchorLemmas.{at_hand_here, by_ok, damage_here, none_faulty, roots_are, roots_here}
+use Rattle.dedb_area.proofs.Sent.{sent_here}
 use Rattle.dedb_area.proofs.Looks.{areas_looked}
 use Rattle.dedb_area.proofs.areas.Areas.anchor.Goals as goal
 
@@ -42,6 +44,18 @@ returns-clause-database g c = λ told way bytes db stands are.
     (roots_here way bytes (g.T.Site.disk c.args.site.now) _ c.args.dedb c.args.anchor set place now has is
     c.roots_at.result (c.roots_at.ensures.roots told))
     (λ roots h. roots_are places (behind way.unsealed bytes) db c.args.dedb c.args.anchor roots are2 h)
+
+pub returns-clause-sent : goal.returns-clause-sent
+returns-clause-sent g c = λ told way bytes defs db def stands e are shaped defined.
+    let set = c.area_of-set.result in
+    let has = subst (λ l. HasAnchorIn l c.args.dedb c.args.anchor set) c.deref-places.ensures.value
+    c.area_of-set.ensures in
+    let there : place_at (places_of defs) set ≡ Some has.place =
+    ap (λ ps. place_at ps set) (sym e ∙ ap (λ (h : Holding). h.places) (sym c.self.view_is)) ∙ has.is.is_place in
+    by_ok c.roots_at.result (λ roots. roots ≡ roots_at db c.args.dedb c.args.anchor) (AreSentTo def c.args.anchor)
+    (returns-clause-database g c told way bytes db stands are)
+    (λ roots same. subst (AreSentTo def c.args.anchor) (sym same)
+    (sent_here defs set has.place db def c.args.dedb c.args.anchor has.number shaped there defined has.is.lies))
 
 pub returns-clause-damaged : goal.returns-clause-damaged
 returns-clause-damaged g c = λ told way bytes stands s at e.
