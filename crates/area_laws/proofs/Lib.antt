@@ -2,6 +2,7 @@ pub mod PlaceLemmas
 pub mod DedbLemmas
 pub mod InsertLemmas
 pub mod PurgeLemmas
+pub mod AnchorAreas
 pub mod FullLemmas
 pub mod StartLemmas
 pub mod Areawise

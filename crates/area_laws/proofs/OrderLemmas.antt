@@ -1,17 +1,20 @@
 -- Keys that ascend, and sequential lists that changed roots bring.
-use Rattle.std.proofs.Common.{◌≡◌, ◌≢◌, inl, inr, ℕ, ◌+◌, ◌-◌, ◌<◌, true, false, List, [], ◌∷◌, length, map, Some, None, Option, refl, sym, ◌∙◌, ap, subst, arith}
+use Rattle.std.proofs.Common.{◌≡◌, ◌≢◌, inl, inr, ℕ, ◌+◌, ◌-◌, ◌<◌, true, false, List, [], ◌∷◌, length, map, min, Some, None, Option, refl, sym, ◌∙◌, ap, subst, arith}
 use Rattle.std.specs.Prelude.{◌&&◌, ◌==◌, slice_get, unwrap_or}
 use Rattle.std.specs.List.{AllByRecursion, list_all}
 use Rattle.std.specs.Option.{option_map_or}
 use Rattle.std.proofs.lemmas.Bool.{cases_Bool}
 use Rattle.std.proofs.lemmas.Bool.Decides.{nat_tests}
+use Rattle.fp_model.specs.Commit.{kept_from}
 use Rattle.fp_model.specs.declared.calls.AnchorChange.{AnchorChange}
+use Rattle.fp_model.specs.declared.calls.SeqInsert.{SeqInsert}
 use Rattle.fp_model.specs.declared.database.AreaEnds.{AreaEnds}
 use Rattle.fp_model.specs.declared.database.Db.{Db}
 use Rattle.fp_model.specs.declared.database.Dedb.{Dedb}
 use Rattle.fp_model.specs.declared.database.Root.{Root}
 use Rattle.fp_model.specs.declared.definitions.DedbDef.{DedbDef}
 use Rattle.fp_model.specs.declared.definitions.Defs.{Defs}
+use Rattle.fp_model.specs.declared.definitions.SegDef.{SegDef}
 use Rattle.fp_model.specs.Exits.{anchor_of}
 use Rattle.fp_model.specs.Order.{root_key}
 use Rattle.fp_model.specs.Shape.{IsDbOf, is_anchor, is_root}
@@ -20,15 +23,16 @@ use Rattle.fp_model.specs.Workspace.{change_precedes}
 use Rattle.area_states.specs.declared.place.Place.{Place}
 use Rattle.area_states.specs.Places.{has_anchor as lies_in, place_at, places_of}
 use Rattle.area_states.specs.States.{AreaState}
-use Rattle.area_states.specs.Changes.{AllKeepLists, AreOrdered, HasListOf, KeepsLists, with_change, with_changes}
+use Rattle.area_states.specs.Changes.{AllKeepLists, AreOrdered, HasListOf, KeepsLists, purged, with_change, with_changes, with_insert, with_inserts}
 use Rattle.area_states.specs.Databases.{HasAnchorOf, state_of}
-use Rattle.area_states.proofs.Changing.{in_area}
+use Rattle.area_states.proofs.Changing.{in_area, ordered_insert}
 use Rattle.state_laws.specs.Changes.{HasNoneOrNow}
 use Rattle.state_laws.specs.Parts.{FitsAnchorChange, changes_ascend}
 use Rattle.state_laws.proofs.Areas.{alone, get_contains}
 use Rattle.state_laws.proofs.Lists.{first_true, second_true, some_is}
 use Rattle.state_laws.proofs.Stands.{at_area, get_there}
-use Rattle.area_laws.specs.Areas.{BringsOrder}
+use Rattle.root_anchor.specs.Chains.{anchor_count}
+use Rattle.area_laws.specs.Areas.{AreSentTo, BringsOrder}
 use Rattle.area_laws.proofs.PlaceLemmas.{area_of_place}
 
 -- ---- keys
@@ -70,6 +74,62 @@ shaped_order defs set place db good at =
             (list_all (λ root. anchor_of d (root_key d.segments root) == area.first_anchor + k) roots)
             (each roots refl))
 
+all_equal : (def : DedbDef) (anchor : ℕ) (roots : List Root)
+    → list_all (λ root. anchor_of def (root_key def.segments root) == anchor) roots ≡ true → AreSentTo def anchor roots
+all_equal def anchor [] e = tt
+all_equal def anchor (r ∷ roots) e =
+    let first = first_true (anchor_of def (root_key def.segments r) == anchor)
+    (list_all (λ root. anchor_of def (root_key def.segments root) == anchor) roots) e in (
+      grind (arith, nat_tests, first),
+      all_equal def anchor roots (second_true (anchor_of def (root_key def.segments r) == anchor)
+          (list_all (λ root. anchor_of def (root_key def.segments root) == anchor) roots) e),
+    )
+
+-- a root's key is one that is sent to its anchor
+pub shaped_keys : (defs : Defs) (set : ℕ) (place : Place) (db : Db) (def : DedbDef) (number : ℕ) → IsDbOf defs db
+    → place_at (places_of defs) set ≡ Some place → slice_get defs.dedbs place.dedb ≡ Some def
+    → number < anchor_count place.shape
+    → AreSentTo def (place.first_anchor + number) ((state_of place db).roots number)
+shaped_keys defs set place db def number good at defined below =
+    let a = area_of_place defs set place at in
+    let defined2 : slice_get defs.dedbs a.area.dedb ≡ Some def =
+    subst (λ (p : Place). slice_get defs.dedbs p.dedb ≡ Some def) a.is_place defined in
+    let below2 : number < anchors_in a.area.def =
+    subst (λ (p : Place). number < anchor_count p.shape) a.is_place below in
+    subst (λ (p : Place). AreSentTo def (p.first_anchor + number) ((state_of p db).roots number)) (sym a.is_place)
+    (own a.area defined2 a.there number below2)
+  where
+    inside : (area : Area) (k : ℕ) → k < anchors_in area.def → has_anchor (alone area) 0 (area.first_anchor + k) ≡ true
+    inside area k lt = grind (arith, nat_tests, lt)
+
+    own : (area : Area) → slice_get defs.dedbs area.dedb ≡ Some def
+        → slice_get (areas_of defs) (set - first_area_set) ≡ Some area → (k : ℕ) → k < anchors_in area.def
+        → AreSentTo def (area.first_anchor + k) (roots_at db area.dedb (area.first_anchor + k))
+    own area defined there k lt =
+        let x = at_area defs db good area (get_contains (areas_of defs) (set - first_area_set) area there) in
+        let same : x.def ≡ def = some_is x.def def (sym x.defined ∙ defined) in
+        let roots_are : roots_at db area.dedb (area.first_anchor + k)
+        ≡ unwrap_or (slice_get x.dedb.anchors (area.first_anchor + k)) [] =
+        rw x.now refl in
+        let sent : AreSentTo x.def (area.first_anchor + k)
+        (unwrap_or (slice_get x.dedb.anchors (area.first_anchor + k)) []) =
+        by x.def (slice_get x.dedb.anchors (area.first_anchor + k)) x.ends
+        (λ roots e. x.good.each_anchor (alone area) x.ends (area.first_anchor + k) roots x.there x.ends_now
+        (inside area k lt) e) in
+        subst (λ (d : DedbDef). AreSentTo d (area.first_anchor + k)
+        (roots_at db area.dedb (area.first_anchor + k))) same
+        (subst (AreSentTo x.def (area.first_anchor + k)) (sym roots_are) sent)
+      where
+        by : (d : DedbDef) (o : Option (List Root)) (ends : AreaEnds)
+            → ((roots : List Root) → o ≡ Some roots → is_anchor d (area.first_anchor + k) ends roots ≡ true)
+            → AreSentTo d (area.first_anchor + k) (unwrap_or o [])
+        by d None ends each = tt
+        by d (Some roots) ends each =
+            all_equal d (area.first_anchor + k) roots
+            (second_true (list_all (is_root d.segments ends) roots && ascend (map (root_key d.segments) roots))
+            (list_all (λ root. anchor_of d (root_key d.segments root) == area.first_anchor + k) roots)
+            (each roots refl))
+
 pub changed_order : (place : Place) (changes : List AnchorChange) (state : AreaState) → AreOrdered place state
     → AllByRecursion (BringsOrder place) changes → AreOrdered place (with_changes place changes state)
 changed_order place [] state ordered all = ordered
@@ -82,6 +142,23 @@ changed_order place (c ∷ changes) state ordered all =
       ])
       | inr outside ↦ rw outside ordered
     ]) all.1
+
+-- inserts and a Purge change no key
+pub inserted_order : (place : Place) (inserts : List SeqInsert) (state : AreaState) → AreOrdered place state
+    → AreOrdered place (with_inserts place inserts state)
+inserted_order place [] state ordered = ordered
+inserted_order place (i ∷ inserts) state ordered =
+    inserted_order place inserts (with_insert place state i) (ordered_insert place state i ordered)
+
+kept_keys : (types : List SegDef) (begin : ℕ) (roots : List Root)
+    → map (root_key types) (map (kept_from begin) roots) ≡ map (root_key types) roots
+kept_keys types begin [] = refl
+kept_keys types begin (r ∷ roots) = ap (λ ks. root_key types r ∷ ks) (kept_keys types begin roots)
+
+pub purged_order : (place : Place) (n : ℕ) (state : AreaState) → AreOrdered place state
+    → AreOrdered place (purged n state)
+purged_order place n state ordered anchor lt =
+    ap ascend (kept_keys place.segments (min state.end (state.begin + n)) (state.roots anchor)) ∙ ordered anchor lt
 
 -- ---- lists
 

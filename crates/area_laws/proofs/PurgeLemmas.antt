@@ -1,6 +1,6 @@
 -- A Purge in the databases and in an area.
-use Rattle.std.proofs.Common.{◌≡◌, ◌≢◌, ◌⊎◌, inl, inr, ℕ, ◌+◌, ◌-◌, ◌<◌, ◌≤◌, Bool, true, false, List, [], map, min, Some, None, Option, refl, sym, ◌∙◌, ap, subst, arith}
-use Rattle.std.specs.Prelude.{Contains, if◌then◌else◌, nat_lt, option_map, slice_get, unwrap_or}
+use Rattle.std.proofs.Common.{◌≡◌, ◌≢◌, ◌⊎◌, inl, inr, ℕ, zero, suc, ◌+◌, ◌-◌, ◌<◌, ◌≤◌, Bool, true, false, List, [], ◌∷◌, ◌++◌, map, min, Some, None, Option, refl, sym, ◌∙◌, ap, subst, arith}
+use Rattle.std.specs.Prelude.{Contains, IsSome, if◌then◌else◌, nat_lt, option_map, slice_get, unwrap_or}
 use Rattle.std.specs.Option.{option_map_or}
 use Rattle.std.proofs.lemmas.Bool.Decides.{nat_tests}
 use Rattle.fp_model.specs.declared.database.AreaEnds.{AreaEnds}
@@ -10,16 +10,16 @@ use Rattle.fp_model.specs.declared.database.Root.{Root}
 use Rattle.fp_model.specs.declared.definitions.DedbDef.{DedbDef}
 use Rattle.fp_model.specs.declared.definitions.Defs.{Defs}
 use Rattle.fp_model.specs.Commit.{area_of_set, ends_at, in_anchors, kept_from, purged, purged_area, with_dedb, with_ends}
-use Rattle.fp_model.specs.State.{Area, anchors_in, areas_from, areas_of, first_area_set, roots_at}
+use Rattle.fp_model.specs.State.{Area, anchors_in, areas_from, areas_of, areas_of_all, first_area_set, roots_at}
 use Rattle.area_states.specs.declared.place.Place.{Place}
-use Rattle.area_states.specs.Places.{place_at, place_of, places_of}
+use Rattle.area_states.specs.Places.{place_at, place_of, places_from, places_of}
 use Rattle.area_states.specs.States.{SameState}
 use Rattle.area_states.specs.Changes.{purged as purged_here}
 use Rattle.area_states.specs.Databases.{state_of}
 use Rattle.state_laws.proofs.Areas.{AreApart, database, get_contains, same_or_apart}
 use Rattle.state_laws.proofs.Lists.{none_is_not_some, some_is}
 use Rattle.state_laws.proofs.Ranges.{get_inside, get_outside}
-use Rattle.area_laws.specs.Areas.{HasArea, area_count}
+use Rattle.area_laws.specs.Areas.{HasArea, HasPart, area_count}
 use Rattle.area_laws.proofs.DedbLemmas.{changed_here, count_in, ends_in, ends_keep_roots, its_ends, other_ends, roots_in, stays_in}
 use Rattle.area_laws.proofs.PlaceLemmas.{area_of_place, one_number}
 
@@ -144,6 +144,7 @@ pub record IsPurgeOf (defs : Defs) (set n : ℕ) (db new : Db) : Type 0 where
   pub area : Area
   pub is_area : nat_lt set first_area_set ≡ false
   pub there : slice_get (areas_of defs) (set - first_area_set) ≡ Some area
+  pub some : nat_lt 0 area.def.capacity ≡ true
   pub is_new : new ≡ purged_area area n db
 
 pub purge_of : (defs : Defs) (set n : ℕ) (db new : Db) → purged defs set n db ≡ Some new
@@ -153,13 +154,13 @@ purge_of defs set n db new e = by (area_of_set defs set) refl e
   where
     at : (b : Bool) → nat_lt set first_area_set ≡ b → (area : Area)
         → (if b then None else slice_get (areas_of defs) (set - first_area_set)) ≡ Some area
-        → new ≡ purged_area area n db → IsPurgeOf defs set n db new
+        → (nat_lt 0 area.def.capacity ≡ true) × (new ≡ purged_area area n db) → IsPurgeOf defs set n db new
     at true is area e same = absurd (none_is_not_some area e)
-    at false is area e same = record { area = area; is_area = is; there = e; is_new = same }
+    at false is area e same = record { area = area; is_area = is; there = e; some = same.0; is_new = same.1 }
 
     with_part : (b : Bool) (area : Area) → (if b then Some (purged_area area n db) else None) ≡ Some new
-        → new ≡ purged_area area n db
-    with_part true area e = sym (some_is (purged_area area n db) new e)
+        → (b ≡ true) × (new ≡ purged_area area n db)
+    with_part true area e = (refl, sym (some_is (purged_area area n db) new e))
     with_part false area e = absurd (none_is_not_some new e)
 
     by : (o : Option Area) → area_of_set defs set ≡ o
@@ -202,3 +203,50 @@ purge_elsewhere defs set n db new other place e ne at =
     from_first : (s o : ℕ) → nat_lt s first_area_set ≡ false → nat_lt o first_area_set ≡ false
         → s - first_area_set ≡ o - first_area_set → o ≡ s
     from_first s o p q e = grind (arith, nat_tests)
+
+-- ---- when there are databases behind a Purge
+
+-- each area has its place
+placed_own : (d : DedbDef) (own rest : List Area) (places : List Place)
+    → ((k : ℕ) (area : Area) → slice_get rest k ≡ Some area
+    → (def : DedbDef) × (slice_get places k ≡ Some (place_of def area)))
+    → (k : ℕ) (area : Area) → slice_get (own ++ rest) k ≡ Some area
+    → (def : DedbDef) × (slice_get (map (place_of d) own ++ places) k ≡ Some (place_of def area))
+placed_own d [] rest places later k area e = later k area e
+placed_own d (a ∷ own) rest places later zero area e = (d, ap (λ x. Some (place_of d x)) (some_is a area e))
+placed_own d (a ∷ own) rest places later (suc k) area e = placed_own d own rest places later k area e
+
+pub placed_among : (dedb : ℕ) (ds : List DedbDef) (k : ℕ) (area : Area) → slice_get (areas_of_all dedb ds) k ≡ Some area
+    → (def : DedbDef) × (slice_get (places_from dedb ds) k ≡ Some (place_of def area))
+placed_among dedb [] k area e = absurd (none_is_not_some area e)
+placed_among dedb (d ∷ ds) k area e =
+    placed_own d (areas_from dedb 0 0 d.areas) (areas_of_all (dedb + 1) ds) (places_from (dedb + 1) ds)
+    (placed_among (dedb + 1) ds) k area e
+
+pub part_of_purge : (defs : Defs) (set n : ℕ) (db new : Db) → purged defs set n db ≡ Some new
+    → HasPart (places_of defs) set
+part_of_purge defs set n db new e =
+    let p = purge_of defs set n db new e in
+    let at = placed_among 0 defs.dedbs (set - first_area_set) p.area p.there in
+    record {
+      place = place_of at.0 p.area;
+      is_place = (let low = p.is_area in rw low at.1);
+      some = (let some = p.some in grind (arith, nat_tests, some));
+    }
+
+pub purge_there : (defs : Defs) (set n : ℕ) (db : Db) → HasPart (places_of defs) set → IsSome (purged defs set n db)
+unfolding purged
+purge_there defs set n db has =
+    let a = area_of_place defs set has.place has.is_place in
+    let capacity : 0 < a.area.def.capacity = subst (λ (p : Place). 0 < p.capacity) a.is_place has.some in
+    let low = a.is_area in
+    let there = a.there in
+    let some : nat_lt 0 a.area.def.capacity ≡ true = grind (arith, nat_tests, capacity) in
+    rw low (rw there (rw some refl))
+
+pub purge_none : (defs : Defs) (set n : ℕ) (db : Db) → ¬ HasPart (places_of defs) set → purged defs set n db ≡ None
+purge_none defs set n db none = by (purged defs set n db) refl
+  where
+    by : (o : Option Db) → purged defs set n db ≡ o → o ≡ None
+    by None e = refl
+    by (Some new) e = absurd (none (part_of_purge defs set n db new e))

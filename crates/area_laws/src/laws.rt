@@ -1,11 +1,13 @@
 //! Laws of areas and databases, each the contract of a function that does nothing.
 
-ghost use Rattle.std.specs.Prelude.{◌≡◌, ◌≢◌, ◌<◌, ℕ, List, None, Some, false, true};
+ghost use Rattle.std.specs.Prelude.{◌≡◌, ◌≢◌, ◌+◌, ◌<◌, ℕ, IsSome, List, None, Some, false, slice_get, true};
 ghost use Rattle.std.specs.List.{AllByRecursion};
 ghost use Rattle.fp_model.specs.declared.calls.AnchorChange.{AnchorChange};
 ghost use Rattle.fp_model.specs.declared.calls.SeqInsert.{SeqInsert};
 ghost use Rattle.fp_model.specs.declared.database.Db.{Db};
+ghost use Rattle.fp_model.specs.declared.definitions.DedbDef.{DedbDef};
 ghost use Rattle.fp_model.specs.declared.definitions.Defs.{Defs};
+ghost use Rattle.root_anchor.specs.Chains.{anchor_count};
 ghost use Rattle.fp_model.specs.Commit.{FillsPart, first_full, purged, with_anchors, with_inserts};
 ghost use Rattle.fp_model.specs.Shape.{IsDbOf};
 ghost use Rattle.fp_model.specs.State.{areas_of, first_area_set, start};
@@ -17,7 +19,7 @@ ghost use Rattle.area_states.specs.Databases.{AreFor, HasAnchorOf, area_in, stat
 ghost use Rattle.area_states.specs.Places.{ArePlaces, IsPlace, has_anchor, layout_of, place_at, places_of};
 ghost use Rattle.area_states.specs.States.{AreaState, HasState, SameState};
 ghost use Rattle.state_laws.specs.Parts.{FitsAnchorChange, FitsSeqInsert, changes_ascend};
-ghost use Rattle.area_laws.specs.Areas.{BringsOrder, HasArea, HasAreas, TakesAll};
+ghost use Rattle.area_laws.specs.Areas.{AreSentTo, BringsOrder, HasArea, HasAreas, HasPart, TakesAll};
 ghost use Rattle.area_laws.specs.Starts.{AreStarts, IsStart, start_state};
 
 /// Changed anchors and sequential inserts make of an area what they make of the databases that it stands for. So where
@@ -68,6 +70,14 @@ pub fn a_purge_is_that_of_the_databases()
         → ((other : ℕ) (place : Place) → other ≢ set → place_at (places_of defs) other ≡ Some place
         → HasState place (area_in (layout_of (places_of defs)) bytes other) (state_of place db))
         → AreFor (places_of defs) bytes new }
+
+    // There are databases behind it exactly where the data set is an area with a sequential part.
+    ensures some { (defs : Defs) (set n : ℕ) (db : Db)
+        → HasPart (places_of defs) set
+        → IsSome (purged defs set n db) }
+    ensures none { (defs : Defs) (set n : ℕ) (db : Db)
+        → ¬ HasPart (places_of defs) set
+        → purged defs set n db ≡ None }
 {}
 
 /// The area that is too full for the inserts of a commit is the first whose part has no room for those of them that are
@@ -107,6 +117,21 @@ pub fn databases_have_each_area()
         → HasAreas new places }
 {}
 
+/// An anchor of databases with the shape of their definitions lies in just one area.
+pub fn an_anchor_lies_in_one_area()
+    ensures some { (defs : Defs) (db : Db) (c : AnchorChange)
+        → IsDbOf defs db
+        → HasAnchorOf db c
+        → (set : ℕ) × (place : Place) × (place_at (places_of defs) set ≡ Some place)
+        × (has_anchor place c.dedb c.anchor ≡ true) }
+    ensures one { (defs : Defs) (set other : ℕ) (place next : Place) (dedb anchor : ℕ)
+        → place_at (places_of defs) set ≡ Some place
+        → place_at (places_of defs) other ≡ Some next
+        → has_anchor place dedb anchor ≡ true
+        → has_anchor next dedb anchor ≡ true
+        → set ≡ other }
+{}
+
 /// An area as it starts is whole and has no roots, and its sequential part never had a segment. So where each area
 /// starts, their bytes stand for the databases before any transaction.
 pub fn formatted_areas_stand_for_the_start()
@@ -130,7 +155,7 @@ pub fn good_definitions_give_places()
 {}
 
 /// In databases with the shape of their definitions the keys of each anchor's roots ascend. They do so still behind
-/// changes that bring roots in order.
+/// changes that bring roots in order, behind sequential inserts, and behind a Purge.
 pub fn roots_are_in_order()
     ensures shaped { (defs : Defs) (set : ℕ) (place : Place) (db : Db)
         → IsDbOf defs db
@@ -140,6 +165,23 @@ pub fn roots_are_in_order()
         → AreOrdered place state
         → AllByRecursion (BringsOrder place) changes
         → AreOrdered place (with_changes place changes state) }
+    ensures inserted { (place : Place) (inserts : List SeqInsert) (state : AreaState)
+        → AreOrdered place state
+        → AreOrdered place (with_inserts_here place inserts state) }
+    ensures purged { (place : Place) (n : ℕ) (state : AreaState)
+        → AreOrdered place state
+        → AreOrdered place (purged_state n state) }
+{}
+
+/// In databases with the shape of their definitions each root's key is one that the randomizer sends to its anchor.
+#[tactic(auto, using(crate::proofs::OrderLemmas::shaped_keys))]
+pub fn roots_lie_where_their_keys_send_them()
+    ensures { (defs : Defs) (set : ℕ) (place : Place) (db : Db) (def : DedbDef) (number : ℕ)
+        → IsDbOf defs db
+        → place_at (places_of defs) set ≡ Some place
+        → slice_get defs.dedbs place.dedb ≡ Some def
+        → number < anchor_count place.shape
+        → AreSentTo def (place.first_anchor + number) ((state_of place db).roots number) }
 {}
 
 /// Changed anchors that fit the databases and ascend bring to each root no sequential list, or one that a root of the

@@ -12,8 +12,9 @@ mod laws;
 
 pub use laws::{
     a_commit_is_that_of_the_databases, a_full_part_is_that_of_the_databases,
-    a_purge_is_that_of_the_databases, an_area_that_nothing_is_of_keeps_its_state,
-    changed_anchors_keep_the_ends, changes_that_fit_keep_lists, changes_that_fit_may_be_stored,
-    databases_have_each_area, formatted_areas_stand_for_the_start, good_definitions_give_places,
-    inserts_that_fit_may_be_put, roots_are_in_order,
+    a_purge_is_that_of_the_databases, an_anchor_lies_in_one_area,
+    an_area_that_nothing_is_of_keeps_its_state, changed_anchors_keep_the_ends,
+    changes_that_fit_keep_lists, changes_that_fit_may_be_stored, databases_have_each_area,
+    formatted_areas_stand_for_the_start, good_definitions_give_places, inserts_that_fit_may_be_put,
+    roots_are_in_order, roots_lie_where_their_keys_send_them,
 };

@@ -6,3 +6,4 @@ pub mod ItemLemmas
 pub mod Orders
 pub mod Steps
 pub mod Stages
+pub mod AtHand

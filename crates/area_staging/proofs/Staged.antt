@@ -4,15 +4,14 @@ use Rattle.std.specs.Prelude.{Option, Some, None, IsSome}
 use Rattle.std.proofs.lemmas.Bool.{cases_eq, cases_lt}
 use Rattle.fp_site.specs.Disk.{Disk, IsLawful}
 use Rattle.fp_site.specs.Site.{ReadsNothing}
-use Rattle.ci_pool.specs.declared.cell.Waiting.{Waiting}
 use Rattle.ci_pool.specs.Cells.{cell_at}
-use Rattle.ci_pool.specs.Held.{Held, waiting_of, pending_at, bytes_of, bytes_or, interval_in, newest_in}
+use Rattle.ci_pool.specs.Held.{Held, SameAtHand, held_at, waiting_of, bytes_of, bytes_or, interval_in, newest_in}
 use Rattle.held_intervals.specs.Holding.{Changes, held_or, listed, Fit}
 use Rattle.held_intervals.proofs.Holds.{listed_same, fit_put, fit_more}
 use Rattle.area_staging.specs.Looking.{LooksAt}
-use Rattle.area_staging.specs.Staging.{staged_or_newest, staged_area, IsToldPool, Grows, AllPending}
+use Rattle.area_staging.specs.Staging.{staged_or_newest, staged_area, IsToldPool, Grows, AllAtHand}
 use Rattle.area_staging.proofs.Data.{there}
-use Rattle.area_staging.proofs.Looks.{looks_then, looks_as, same_pending}
+use Rattle.area_staging.proofs.Looks.{looks_then, looks_as}
 
 -- ---- one interval
 
@@ -178,13 +177,13 @@ reads_then tells_reads bytes_read a b c first second k tells =
     let early = first k late.0 in
     (early.0, late.1 ∙ early.1)
 
--- an interval that isn't staged was there from the first on, and waits still
-pub still_pending : (before pool : Held) (set_ ci first_count count : ℕ) (first_staged staged : Changes)
-    → AllPending before set_ first_count → Grows first_count count first_staged staged → pool.cells ≡ before.cells
-    → ci < count → staged ci ≡ None → (w : Waiting) × (pending_at pool set_ ci ≡ Some w)
-still_pending before pool set_ ci first_count count first_staged staged all grows same below none =
-    let w = there (pending_at before set_ ci) (all ci old) in
-    (w.0, same_pending before pool same set_ ci ∙ w.1)
+-- an interval that isn't staged was there from the first on, and is at hand still
+pub still_there : (before pool : Held) (set_ ci first_count count : ℕ) (first_staged staged : Changes)
+    → AllAtHand before set_ first_count → Grows first_count count first_staged staged → SameAtHand before pool
+    → ci < count → staged ci ≡ None → (bytes : List ℕ) × (held_at pool set_ ci ≡ Some bytes)
+still_there before pool set_ ci first_count count first_staged staged all grows same below none =
+    let w = there (held_at before set_ ci) (all ci old) in
+    (w.0, same set_ ci ∙ w.1)
   where
     none_there : (o : Option (List ℕ)) → o ≡ None → IsSome o → ⊥
     none_there None e is = cc

@@ -1,15 +1,11 @@
 -- What stays while changes are staged.
-use Rattle.std.proofs.Common.{◌≡◌, ◌≢◌, inl, inr, ℕ, ◌+◌, ◌<◌, ◌≤◌, Bool, true, false, List, length, refl, sym, ◌∙◌, ap, subst, arith}
-use Rattle.std.specs.Prelude.{◌==◌, ◌&&◌, if◌then◌else◌, Contains, Option, Some, None, IsSome}
-use Rattle.std.proofs.lemmas.Bool.Decides.{nat_tests}
+use Rattle.std.proofs.Common.{◌≡◌, ◌≢◌, ℕ, List, refl, ◌∙◌, ap, subst, arith}
+use Rattle.std.specs.Prelude.{Contains}
 use Rattle.fp_site.specs.Disk.{Disk, IsLawful}
 use Rattle.fp_site.proofs.Runs.{stays_then}
-use Rattle.ci_pool.specs.declared.cell.Waiting.{Waiting}
-use Rattle.ci_pool.specs.Held.{Held, HasSize, IsClean, bytes_of, bytes_or, interval_in, newest_in, pending_at, staged_at}
-use Rattle.area_staging.specs.declared.extent.Extent.{Extent}
+use Rattle.ci_pool.specs.Held.{Held, HasSize, bytes_of, bytes_or, interval_in, newest_in, pending_at, staged_at}
 use Rattle.area_staging.specs.Changing.{Shows, Stages}
 use Rattle.area_staging.specs.Looking.{LooksAt, looks_none}
-use Rattle.area_staging.specs.Staging.{AllPending, IsToldPool}
 use Rattle.area_staging.proofs.Looks.{same_pending, same_staged}
 
 module _ {S : Type 0} (told : S → Type 0) (disk : S → Disk) (faults holds : S → ℕ) (keeps : S → S → Type 0)
@@ -91,8 +87,3 @@ module _ {S : Type 0} (told : S → Type 0) (disk : S → Disk) (faults holds : 
         (stages.stays t).contents
         ∙ shown.newest ci below;
   }
-
-  -- and what is pending is so still
-  pub still_all : (count : ℕ) (a b : S) (p q : Held) → Stages told disk faults holds keeps set size a b p q
-      → AllPending p set count → AllPending q set count
-  still_all count a b p q stages all ci below = subst IsSome (sym (stages.pending set ci)) (all ci below)

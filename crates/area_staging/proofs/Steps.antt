@@ -8,19 +8,19 @@ use Rattle.std.proofs.lemmas.Bool.{cases_Bool, cases_eq, cases_lt}
 use Rattle.std.proofs.lemmas.Bool.Decides.{nat_tests}
 use Rattle.std.proofs.lemmas.List.{append-nil, length-drop, length-take-le}
 use Rattle.fp_model.specs.Items.{begins_with_image, is_image}
-use Rattle.fp_model.specs.ItemTargets.{OfInterval, is_ascending, item_target, names_interval}
+use Rattle.fp_model.specs.ItemTargets.{is_ascending, names_interval}
 use Rattle.fp_model.specs.State.{first_area_set}
 use Rattle.fp_model.specs.declared.log.Item.{Item}
 use Rattle.fp_model.specs.declared.log.Item.TheVariants.{Segment, Image, Range}
 use Rattle.held_intervals.specs.Holding.{Changes}
 use Rattle.ci_pool.specs.Held.{Held, staged_at}
-use Rattle.area_redo.specs.Redo.{ComesWhole, names, put, redone_at}
+use Rattle.area_redo.specs.Redo.{names, put, redone_at}
 use Rattle.area_redo.proofs.Changes.{no_change, one_change}
 use Rattle.area_redo.proofs.Items.{begins_named, begins_none, names_more, redone_none}
 use Rattle.area_staging.specs.declared.extent.Extent.{Extent}
 use Rattle.area_staging.specs.Changing.{AllBefore, IsFitFor, IsFitItem, IsItemFor, IsOneStaged, MakeChanges, StagesItems}
 use Rattle.area_staging.specs.Flags.{AreFlagged, IsFlagged}
-use Rattle.area_staging.specs.Items.{DiffersIn, HasFlag, IsChange, IsItemOf, items_in}
+use Rattle.area_staging.specs.Items.{HasFlag, IsChange, IsItemOf, items_in}
 use Rattle.area_staging.proofs.Flags.{all_flagged}
 use Rattle.area_staging.proofs.ItemLemmas.{names_item, put_item}
 use Rattle.area_staging.proofs.Orders.{all_join, ascends_one, before_push}

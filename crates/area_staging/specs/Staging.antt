@@ -6,7 +6,7 @@ use Rattle.fp_site.specs.Site.{ReadsNothing}
 use Rattle.ci_space.specs.Calls.{HaveSize}
 use Rattle.ci_pool.proofs.Ranges.{length_read}
 use Rattle.ci_pool.specs.declared.cell.Waiting.{Waiting}
-use Rattle.ci_pool.specs.Held.{Held, pending_at, bytes_of, bytes_or, newest_in, IsClean, HasSize}
+use Rattle.ci_pool.specs.Held.{Held, SameAtHand, held_at, pending_at, bytes_of, bytes_or, newest_in, IsClean, HasSize}
 use Rattle.held_intervals.specs.Holding.{Changes, held_or, listed, Fit}
 use Rattle.area_staging.specs.Looking.{LooksAt, looks_none}
 
@@ -33,19 +33,20 @@ pub record Grows (old_count count : ℕ) (old new : Changes) : Type 0 where
   pub fresh : (ci : ℕ) → old_count ≤ ci → ci < count → IsSome (new ci)
   pub stay : (ci : ℕ) → IsSome (old ci) → IsSome (new ci)
 
--- each of so many intervals of an area waits to be written
-abbrev pub AllPending : Held → ℕ → ℕ → Type 0
-AllPending pool set count = (ci : ℕ) → ci < count → IsSome (pending_at pool set ci)
+-- each of so many intervals of an area is at hand: it waits to be written, or is on the pool's list of clean ones
+abbrev pub AllAtHand : Held → ℕ → ℕ → Type 0
+AllAtHand pool set count = (ci : ℕ) → ci < count → IsSome (held_at pool set ci)
 
--- What is known of staging since it was the first: pool and site were looked at and stay, what is staged grows, and where
--- each interval that was there waits, nothing was read.
+-- What is known of staging since it was the first: pool and site were looked at and stay, and what is staged grows. Where
+-- each interval that was there is at hand, nothing was read, and all that was at hand still is.
 pub record KeepsStaging {S : Type 0} (told : S → Type 0) (disk : S → Disk) (faults holds : S → ℕ)
     (keeps : S → S → Type 0) (tells_reads : S → ℕ → Type 0) (bytes_read : S → ℕ → ℕ) (set size first_count count : ℕ)
     (old new : S) (before after : Held) (first_staged staged : Changes) : Type 0 where
   pub looks : LooksAt told disk faults holds keeps set size old new before after
   pub grows : Grows first_count count first_staged staged
-  pub reads : AllPending before set first_count
+  pub reads : AllAtHand before set first_count
       → ReadsNothing (tells_reads old) (tells_reads new) (bytes_read old) (bytes_read new)
+  pub hand : AllAtHand before set first_count → SameAtHand before after
 
 pub grows_itself : (count : ℕ) (staged : Changes) → Grows count count staged staged
 grows_itself count staged = record {
@@ -62,6 +63,7 @@ kept_itself told disk faults holds keeps tells_reads bytes_read set size count s
   looks = looks_none told disk faults holds keeps set size s pool;
   grows = grows_itself count staged;
   reads = λ all k tells. (tells, refl);
+  hand = λ all s k. refl;
 }
 
 -- ---- there are as many as are counted, each of the size

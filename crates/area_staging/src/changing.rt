@@ -8,14 +8,13 @@ ghost use Rattle.fp_model.specs.State.{first_area_set};
 ghost use Rattle.fp_model.specs.ItemTargets.{is_ascending};
 ghost use Rattle.ci_space.specs.Calls.{Rose};
 ghost use Rattle.ci_space.specs.Interval.{is_size};
-ghost use Rattle.ci_pool.specs.Held.{HasSize, IsClean, newest_in, pending_at, staged_at};
+ghost use Rattle.ci_pool.specs.Held.{HasSize, IsClean, SameAtHand, held_at, newest_in, staged_at};
 ghost use Rattle.ci_pool.specs.declared.fault.PoolFault.TheVariants as fault;
-ghost use Rattle.ci_pool.specs.declared.cell.Waiting.{Waiting as Pending};
 ghost use Rattle.area_staging.specs.Changing.{AreWithin, IsFitFor, IsFitItem, IsItemFor, IsOneStaged, MakeChanges, Shows, Stages, StagesItems};
 ghost use Rattle.area_staging.specs.Flags.{AreFlagged};
 ghost use Rattle.area_staging.specs.Items.{HasFlag, is_imaged, items_in};
 ghost use Rattle.area_staging.specs.Looking.{LooksAt};
-ghost use Rattle.area_staging.specs.Staging.{AllPending};
+ghost use Rattle.area_staging.specs.Staging.{AllAtHand};
 
 use crate::Extent;
 use crate::imaging::{is_imaged, make_room};
@@ -40,7 +39,8 @@ fn old_bytes<T: Site>(
     ensures newest { T.told site.old → IsClean (T.disk site.old).contents pool.old
         → HasSize area.set area.size pool.old
         → IfOk result (λ bytes. bytes ≡ newest_in pool.old (T.disk site.old).contents area.set ci area.size) }
-    ensures unasked { (w : Pending) → pending_at pool.old area.set ci ≡ Some w → site.new ≡ site.old }
+    ensures unasked { (bytes : ListOf ℕ) → held_at pool.old area.set ci ≡ Some bytes → site.new ≡ site.old }
+    ensures hand { (bytes : ListOf ℕ) → held_at pool.old area.set ci ≡ Some bytes → SameAtHand pool.old pool.new }
     ensures failed { IsErrOf result fault.Failed → Rose (T.faults site.old) (T.faults site.new) }
     ensures looks { LooksAt T.told T.disk T.faults T.holds T.keeps area.set area.size site.old site.new pool.old
         pool.new }
@@ -68,7 +68,8 @@ fn change_of<T: Site>(
         → IfOk result (IsItemFor imaged area ci (bytes ci) interval.now) }
     ensures fits { (ci + 1) * area.size ≤ 2 ^ 62 → IfOk result (λ item. IsFitItem area ci item) }
     ensures failed { IsErrOf result fault.Failed → Rose (T.faults site.old) (T.faults site.new) }
-    ensures unread { (ci < area.count → IsSome (pending_at pool.old area.set ci)) → site.new ≡ site.old }
+    ensures unread { (ci < area.count → IsSome (held_at pool.old area.set ci)) → site.new ≡ site.old }
+    ensures hand { (ci < area.count → IsSome (held_at pool.old area.set ci)) → SameAtHand pool.old pool.new }
     ensures looks { LooksAt T.told T.disk T.faults T.holds T.keeps area.set area.size site.old site.new pool.old
         pool.new }
 {
@@ -115,7 +116,8 @@ fn stage_one<T: Site>(
     ensures kept { (s k : ℕ) → HasFlag imaged.old.items s k → HasFlag imaged.new.items s k }
     ensures count { length imaged.new.items ≡ length imaged.old.items }
     ensures failed { IsErrOf result fault.Failed → Rose (T.faults site.old) (T.faults site.new) }
-    ensures unread { (ci < area.count → IsSome (pending_at pool.old area.set ci)) → site.new ≡ site.old }
+    ensures unread { (ci < area.count → IsSome (held_at pool.old area.set ci)) → site.new ≡ site.old }
+    ensures hand { (ci < area.count → IsSome (held_at pool.old area.set ci)) → SameAtHand pool.old pool.new }
     ensures stages { Stages T.told T.disk T.faults T.holds T.keeps area.set area.size site.old site.new pool.old
         pool.new }
 {
@@ -172,7 +174,8 @@ pub fn stage_changed<T: Site>(
 
     // The site.
     ensures failed { IsErrOf result fault.Failed → Rose (T.faults site.old) (T.faults site.new) }
-    ensures unread { AllPending pool.old area.set area.count → site.new ≡ site.old }
+    ensures unread { AllAtHand pool.old area.set area.count → site.new ≡ site.old }
+    ensures hand { AllAtHand pool.old area.set area.count → SameAtHand pool.old pool.new }
     ensures stages { Stages T.told T.disk T.faults T.holds T.keeps area.set area.size site.old site.new pool.old
         pool.new }
 {

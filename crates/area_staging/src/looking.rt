@@ -3,8 +3,7 @@
 ghost use Rattle.std.specs.Prelude.{◌≡◌, ◌≢◌, ◌+◌, ◌*◌, ◌≤◌, ◌^◌, ℕ, List, Err, Some, IfOk, IsErrOf, length};
 ghost use Rattle.ci_space.specs.Calls.{Rose};
 ghost use Rattle.ci_space.specs.Interval.{IsInterval};
-ghost use Rattle.ci_pool.specs.Held.{IsClean, HasSize, newest_in, pending_at};
-ghost use Rattle.ci_pool.specs.declared.cell.Waiting.{Waiting as Pending};
+ghost use Rattle.ci_pool.specs.Held.{IsClean, HasSize, SameAtHand, held_at, newest_in};
 ghost use Rattle.area_staging.specs.Looking.{LooksAt};
 
 use ci_pool::{Pool, PoolFault};
@@ -45,7 +44,8 @@ pub(crate) fn newest<T: Site>(
     ensures newest { T.told site.old → IsClean (T.disk site.old).contents pool.old → HasSize set size pool.old
         → IfOk result (λ bytes. bytes ≡ newest_in pool.old (T.disk site.old).contents set ci size) }
     ensures never_bad { (n : ℕ) → result ≢ Err (GetFault.BadTiles n) }
-    ensures unasked { (w : Pending) → pending_at pool.old set ci ≡ Some w → site.new ≡ site.old }
+    ensures unasked { (bytes : List ℕ) → held_at pool.old set ci ≡ Some bytes → site.new ≡ site.old }
+    ensures hand { (bytes : List ℕ) → held_at pool.old set ci ≡ Some bytes → SameAtHand pool.old pool.new }
     ensures failed { result ≡ Err GetFault.Failed → Rose (T.faults site.old) (T.faults site.new) }
     ensures looks { LooksAt T.told T.disk T.faults T.holds T.keeps set size site.old site.new pool.old pool.new }
 {
@@ -73,7 +73,8 @@ pub fn interval_at<T: Site>(
     ensures bad_bytes { T.told site.old → IsClean (T.disk site.old).contents pool.old → HasSize set size pool.old
         → (n : ℕ) → result ≡ Err (GetFault.BadTiles n)
         → ¬ IsInterval (newest_in pool.old (T.disk site.old).contents set ci size) }
-    ensures unasked { (w : Pending) → pending_at pool.old set ci ≡ Some w → site.new ≡ site.old }
+    ensures unasked { (bytes : List ℕ) → held_at pool.old set ci ≡ Some bytes → site.new ≡ site.old }
+    ensures hand { (bytes : List ℕ) → held_at pool.old set ci ≡ Some bytes → SameAtHand pool.old pool.new }
     ensures failed { result ≡ Err GetFault.Failed → Rose (T.faults site.old) (T.faults site.new) }
     ensures looks { LooksAt T.told T.disk T.faults T.holds T.keeps set size site.old site.new pool.old pool.new }
 {

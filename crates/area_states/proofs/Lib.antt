@@ -12,3 +12,5 @@ pub mod Rooms
 pub mod Changing
 pub mod DbLemmas
 pub mod Storables
+pub mod Again
+pub mod Alone

@@ -108,7 +108,7 @@ read_from place area (k ∷ kept) (r ∷ roots) root some ordered all in_it =
     ]
 
 -- The list of a root that is stored is empty, or one that a root of the anchor has: it is read from its newest serial.
-own_list : (place : Place) (area : List (List ℕ)) (kept now : List Root) (root : Root) → 1 ≤ begin_of area
+pub own_list : (place : Place) (area : List (List ℕ)) (kept now : List Root) (root : Root) → 1 ≤ begin_of area
     → begin_of area ≤ end_of area → AllZip (IsReadAs place area) kept now → HasListOf now root
     → IsDown (part_of place) area (newest_serial root.seqs) root.seqs × (newest_serial root.seqs < end_of area)
 own_list place area kept now root some ordered all (inl none) =
@@ -126,7 +126,7 @@ unread begin end serial [] e some ordered (inr low) = (low, omega (arith, low, o
 unread begin end serial (item ∷ items) e some ordered is = cc
 
 -- a list is read from the serial that stands for it
-serial_reads : (part : Part) (area : List (List ℕ)) (serial : ℕ) (items : List SeqItem) → 1 ≤ begin_of area
+pub serial_reads : (part : Part) (area : List (List ℕ)) (serial : ℕ) (items : List SeqItem) → 1 ≤ begin_of area
     → begin_of area ≤ end_of area → IsSerialFor (begin_of area) items serial
     → IsDown part area (newest_serial items) items × (newest_serial items < end_of area)
     → IsDown part area serial items × (serial < end_of area)

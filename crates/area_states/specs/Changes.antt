@@ -1,5 +1,5 @@
 -- What a commit, and what a Purge, makes of the state of an area.
-use Rattle.std.specs.Prelude.{◌≡◌, ◌⊎◌, ⊤, ℕ, ◌+◌, ◌-◌, ◌<◌, Bool, true, false, ◌==◌, if◌then◌else◌, List, [], ◌∷◌, length, map, min, fold, filter, Contains}
+use Rattle.std.specs.Prelude.{◌≡◌, ◌≢◌, ◌⊎◌, ⊤, ℕ, ◌+◌, ◌-◌, ◌<◌, Bool, true, false, ◌==◌, if◌then◌else◌, List, [], ◌∷◌, length, map, min, fold, filter, Contains}
 use Rattle.std.specs.List.{AllByRecursion}
 use Rattle.fp_model.specs.declared.calls.AnchorChange.{AnchorChange}
 use Rattle.fp_model.specs.declared.calls.SeqInsert.{SeqInsert}
@@ -9,6 +9,8 @@ use Rattle.fp_model.specs.declared.database.SeqItem.{SeqItem}
 use Rattle.fp_model.specs.Commit.{is_too_full, with_newest, kept_from}
 use Rattle.fp_model.specs.Order.{root_key}
 use Rattle.fp_model.specs.State.{ascend, change_key}
+use Rattle.ci_overflow.specs.Lists.{bytes_at}
+use Rattle.root_changes.specs.Differing.{RootsDiffer}
 use Rattle.root_anchor.specs.Chains.{anchor_count, newest}
 use Rattle.root_anchor.specs.Stored.{are_storable}
 use Rattle.area_states.specs.declared.place.Place.{Place}
@@ -52,6 +54,19 @@ abbrev pub AllKeepLists : Place → AreaState → List AnchorChange → Type 0
 AllKeepLists place state [] = ⊤
 AllKeepLists place state (c ∷ changes) =
     KeepsLists place state c × AllKeepLists place (with_change place state c) changes
+
+-- ---- one segment alone
+
+-- the roots that a change brings differ in one segment from those that the area has there
+abbrev pub ChangesOne : Place → AreaState → AnchorChange → Type 0
+ChangesOne place state c =
+    has_anchor place c.dedb c.anchor ≡ true → RootsDiffer (state.roots (c.anchor - place.first_anchor)) c.roots
+
+-- of an area at most one interval changes, and none is added
+pub record OneChanges (old new : List (List ℕ)) : Type 0 where
+  pub ci : ℕ
+  pub others : (k : ℕ) → k ≢ ci → bytes_at new k ≡ bytes_at old k
+  pub same_number : length new ≡ length old
 
 -- ---- sequential inserts
 

@@ -44,6 +44,20 @@ abbrev pub IsSerialFor : ℕ → List SeqItem → ℕ → Type 0
 IsSerialFor begin [] serial = (serial ≡ 0) ⊎ (serial < begin)
 IsSerialFor begin (item ∷ items) serial = serial ≡ item.serial
 
+-- An anchor of an area with this begin has this root, but for what is below it: its bytes, and a serial that stands for
+-- its sequential list.
+pub record IsOwnOf (begin : ℕ) (root kept : Root) : Type 0 where
+  pub bytes : root.bytes ≡ kept.bytes
+  pub serial : ℕ
+  pub is_serial : IsSerialFor begin root.seqs serial
+  pub seqs : kept.seqs ≡ serial_list serial
+
+-- the root of this number has this list
+pub record HasSeqsAt (roots : List Root) (number : ℕ) (seqs : List SeqItem) : Type 0 where
+  pub root : Root
+  pub is_there : slice_get roots number ≡ Some root
+  pub has_list : root.seqs ≡ seqs
+
 -- An anchor of an area with this begin keeps the first root as the second, of its sequential list one serial alone.
 pub record IsKeptAs (begin : ℕ) (root kept : Root) : Type 0 where
   pub bytes : root.bytes ≡ kept.bytes

@@ -287,6 +287,9 @@ pub fn append_all<I: Intervals>(
         → AreOrdered place.now state → (begin end n : ℕ) → result ≡ Err (SeqFault.Full begin end n)
         → I.intervals i.new ≡ I.intervals i.old }
 
+    // Where no insert is of this area, nothing happens.
+    ensures idle { count_of place.now inserts.now ≡ 0 → i.new ≡ i.old }
+
     // Then nothing is damaged; and it fails only with what holds the intervals.
     ensures sound { I.told i.old → (state : AreaState) → HasState place.now (I.intervals i.old) state
         → AreOrdered place.now state → (ci : ℕ) → result ≢ Err (SeqFault.Damaged ci) }

@@ -1,11 +1,14 @@
 //! Roots as an anchor keeps them: of a sequential list the newest serial alone.
 
-ghost use Rattle.std.specs.Prelude.{◌≡◌, ◌⊎◌, ◌<◌, IfOk, map, true};
+ghost use Rattle.std.specs.Prelude.{◌≡◌, ◌⊎◌, ◌<◌, ℕ, IfOk, Some, map, slice_get, true};
 ghost use Rattle.std.specs.List.{AllZip};
 ghost use Rattle.root_anchor.specs.Chains.{newest};
 ghost use Rattle.root_anchor.specs.Stored.{are_storable, is_newest, is_storable};
 ghost use Rattle.area_states.specs.Changes.{kept_root};
-ghost use Rattle.area_states.specs.Keys.{IsKeptAs, IsSerialFor};
+ghost use Rattle.area_states.specs.Keys.{HasSeqsAt, IsKeptAs, IsOwnOf, IsSerialFor};
+ghost use Rattle.fp_model.specs.Order.{root_key};
+ghost use Rattle.fp_model.specs.State.{ascend};
+ghost use Rattle.fp_model.specs.declared.database.Root.{Root as RootOf};
 ghost use Rattle.area_states.specs.States.{newest_serial};
 
 use crate::keys::{number_of, root_key};
@@ -54,6 +57,9 @@ fn copy_children(groups: &List<List<Node>>) -> Result<List<List<Node>>, AllocErr
 fn purged_serial(segments: &[SegDef], before: &[Root], root: &Root, begin: u64) -> u64
     ensures below { (result ≡ 0) ⊎ (result < begin) }
     ensures form { are_storable segments.now before.now ≡ true → is_newest segments.now (newest result) ≡ true }
+    ensures again { ascend (map (root_key segments.now) before.now) ≡ true → (number : ℕ) (other : RootOf)
+        → slice_get before.now number ≡ Some other → root.now.bytes ≡ other.bytes
+        → newest_serial other.seqs < begin → result ≡ newest_serial other.seqs }
 {
     let Some(number) = number_of(segments, before, root_key(segments, root)) else {
         return 0;
@@ -68,6 +74,9 @@ fn serial_for(segments: &[SegDef], before: &[Root], root: &Root, begin: u64) -> 
     ensures form { are_storable segments.now before.now ≡ true
         → is_newest segments.now (newest (newest_serial root.now.seqs)) ≡ true
         → is_newest segments.now (newest result) ≡ true }
+    ensures again { ascend (map (root_key segments.now) before.now) ≡ true → (number : ℕ) (other : RootOf)
+        → slice_get before.now number ≡ Some other → root.now.bytes ≡ other.bytes
+        → IsSerialFor begin root.now.seqs (newest_serial other.seqs) → result ≡ newest_serial other.seqs }
 {
     if root.seqs.is_empty() {
         return purged_serial(segments, before, root, begin);
@@ -86,6 +95,9 @@ fn kept_root(
     ensures kept { IfOk result (IsKeptAs begin root.now) }
     ensures form { are_storable segments.now before.now ≡ true → is_storable segments.now (kept_root root.now) ≡ true
         → IfOk result (λ kept. is_storable segments.now kept ≡ true) }
+    ensures again { ascend (map (root_key segments.now) before.now) ≡ true → (number : ℕ) (other : RootOf)
+        → slice_get before.now number ≡ Some other → IsOwnOf begin root.now other
+        → IfOk result (λ kept. kept.seqs ≡ other.seqs) }
 {
     let seqs = newest(alloc, serial_for(segments, before, root, begin))?;
     let bytes = root.bytes.copy()?;
@@ -99,7 +111,7 @@ fn kept_root(
 
 /// Roots as an anchor keeps them that has the roots `before`, in an area with this begin. Of each sequential list its
 /// newest serial stays. For an empty one a serial that the root has already stays, where it is below begin: so a root
-/// that isn't changed otherwise is stored as it is.
+/// that isn't changed otherwise is stored as it is, where the keys of those that the anchor has ascend.
 pub(crate) fn kept_roots(
     alloc: Global,
     segments: &List<SegDef>,
@@ -111,6 +123,9 @@ pub(crate) fn kept_roots(
     ensures form { are_storable segments.now before.now ≡ true
         → are_storable segments.now (map kept_root roots.now) ≡ true
         → IfOk result (λ kept. are_storable segments.now kept ≡ true) }
+    ensures again { ascend (map (root_key segments.now) before.now) ≡ true → (number : ℕ) (root other : RootOf)
+        → slice_get roots.now number ≡ Some root → slice_get before.now number ≡ Some other
+        → IsOwnOf begin root other → IfOk result (λ kept. HasSeqsAt kept number other.seqs) }
 {
     let mut kept = List::new(alloc);
     for root in roots.as_slice() {

@@ -1,10 +1,14 @@
 //! Changed anchors are stored in the intervals of an area.
 
-ghost use Rattle.std.specs.Prelude.{◌≡◌, ◌≢◌, ◌≤◌, ℕ, Err, IfNone, IfOk, IfSome, OnOk, IsErrOf, false, map, true, ◌<◌};
+ghost use Rattle.std.specs.Prelude.{◌≡◌, ◌≢◌, ◌≤◌, ◌∷◌, [], ℕ, Err, IfNone, IfOk, IfSome, OnOk, IsErrOf, false, map, true, ◌<◌};
 ghost use Rattle.std.specs.List.{AllByRecursion};
 ghost use Rattle.ci_space.specs.Calls.{Rose, GoesOn};
 ghost use Rattle.seq_dependents.specs.Control.{IsControlOf, begin_of};
-ghost use Rattle.area_states.specs.Changes.{AllKeepLists, HasListOf, IsStorable, KeepsLists, kept_root, with_change, with_changes, with_roots_at};
+ghost use Rattle.fp_model.specs.Order.{root_key};
+ghost use Rattle.fp_model.specs.State.{ascend};
+ghost use Rattle.fp_model.specs.declared.calls.AnchorChange.{AnchorChange as ChangeOf};
+ghost use Rattle.root_changes.specs.Differing.{RootsDiffer};
+ghost use Rattle.area_states.specs.Changes.{AllKeepLists, AreOrdered, ChangesOne, HasListOf, OneChanges, IsStorable, KeepsLists, kept_root, with_change, with_changes, with_roots_at};
 ghost use Rattle.root_anchor.specs.Chains.{anchor_count};
 ghost use Rattle.root_anchor.specs.Stored.{are_storable};
 ghost use Rattle.area_states.specs.Places.{IsPlace, LiesIn, has_anchor};
@@ -68,6 +72,10 @@ fn store_here<I: Intervals>(
     ensures stored { I.told i.old → (state : AreaState) → HasState place.now (I.intervals i.old) state
         → AllByRecursion (HasListOf (state.roots anchor)) roots.now
         → OnOk result (HasState place.now (I.intervals i.new) (with_roots_at anchor roots.now state)) }
+    ensures alone { I.told i.old → (state : AreaState) → HasState place.now (I.intervals i.old) state
+        → AllByRecursion (HasListOf (state.roots anchor)) roots.now
+        → ascend (map (root_key place.now.segments) (state.roots anchor)) ≡ true
+        → RootsDiffer (state.roots anchor) roots.now → OnOk result (OneChanges (I.intervals i.old) (I.intervals i.new)) }
     ensures sound { I.told i.old → (state : AreaState) → HasState place.now (I.intervals i.old) state → (ci : ℕ)
         → result ≢ Err (AnchorFault.Damaged ci) }
     ensures failed { IsErrOf result AnchorFault.Failed → Rose (I.faults i.old) (I.faults i.new) }
@@ -101,6 +109,9 @@ fn store_one<I: Intervals>(
     ensures stored { I.told i.old → (state : AreaState) → HasState place.now (I.intervals i.old) state
         → KeepsLists place.now state change.now
         → OnOk result (HasState place.now (I.intervals i.new) (with_change place.now state change.now)) }
+    ensures alone { I.told i.old → (state : AreaState) → HasState place.now (I.intervals i.old) state
+        → KeepsLists place.now state change.now → AreOrdered place.now state → ChangesOne place.now state change.now
+        → OnOk result (OneChanges (I.intervals i.old) (I.intervals i.new)) }
     ensures sound { I.told i.old → (state : AreaState) → HasState place.now (I.intervals i.old) state → (ci : ℕ)
         → result ≢ Err (AnchorFault.Damaged ci) }
     ensures failed { IsErrOf result AnchorFault.Failed → Rose (I.faults i.old) (I.faults i.new) }
@@ -132,6 +143,11 @@ pub fn store_all<I: Intervals>(
     ensures stored { I.told i.old → (state : AreaState) → HasState place.now (I.intervals i.old) state
         → AllKeepLists place.now state changes.now
         → OnOk result (HasState place.now (I.intervals i.new) (with_changes place.now changes.now state)) }
+
+    // Where there is one changed anchor, and its roots differ in one segment, at most one interval changes.
+    ensures alone { I.told i.old → (state : AreaState) → HasState place.now (I.intervals i.old) state
+        → (c : ChangeOf) → changes.now ≡ c ∷ [] → KeepsLists place.now state c → AreOrdered place.now state
+        → ChangesOne place.now state c → OnOk result (OneChanges (I.intervals i.old) (I.intervals i.new)) }
 
     // Then nothing is damaged; and it fails only with what holds the intervals.
     ensures sound { I.told i.old → (state : AreaState) → HasState place.now (I.intervals i.old) state

@@ -1,5 +1,5 @@
 -- The list of clean intervals: one brought to its head, and what stands on it then.
-use Rattle.std.proofs.Common.{◌≡◌, ◌⊎◌, inl, inr, ℕ, suc, ◌-◌, ◌<◌, ◌≤◌, Bool, ◌&&◌, List, [], ◌∷◌, length, take, Contains, refl, sym, ap, arith}
+use Rattle.std.proofs.Common.{◌≡◌, ◌⊎◌, inl, inr, ℕ, suc, ◌-◌, ◌<◌, ◌≤◌, ◌∙◌, Bool, true, false, ◌&&◌, List, [], ◌∷◌, length, take, Contains, refl, sym, ap, arith}
 use Rattle.std.specs.Prelude.{Some, None, ◌==◌}
 use Rattle.std.specs.Map.{lookup, lookup_entry, remove_entry}
 use Rattle.std.proofs.lemmas.Bool.{cases_Bool}
@@ -81,4 +81,44 @@ on_list cap set ci s k es v b c =
         sym (ap (λ (e : Entry). e.1) same),
       )
       | inr rest ↦ inr (Contains-remove_entry (is_key set ci) es ((s, k), b) rest)
+    ]
+
+-- ---- what a look-up finds then
+
+other_key : (set ci s k : ℕ) (key : ℕ × ℕ) → is_key set ci key ≡ true → is_key s k (set, ci) ≡ false
+    → is_key s k key ≡ false
+other_key set ci s k key here other =
+    let a : set ≡ key.0 = grind (arith, nat_tests) in
+    let b : ci ≡ key.1 = grind (arith, nat_tests) in
+    let same : (set, ci) ≡ key = λ i. (a i, b i) in
+    sym (ap (is_key s k) same) ∙ other
+
+found_without : (set ci s k : ℕ) (es : Listed) → is_key s k (set, ci) ≡ false
+    → lookup (is_key s k) (remove_entry (is_key set ci) es) ≡ lookup (is_key s k) es
+found_without set ci s k [] other = refl
+found_without set ci s k (e ∷ es) other = elim (cases_Bool (is_key set ci e.0)) [
+  | inl here ↦
+      let apart = other_key set ci s k e.0 here other in
+      rw (here, apart) refl
+  | inr there ↦ rw there (elim (cases_Bool (is_key s k e.0)) [
+    | inl this ↦ rw this refl
+    | inr that ↦ rw that (found_without set ci s k es other)
+  ])
+]
+
+-- one that is used again, and every other, is found as before
+pub found_again : (cap set ci s k : ℕ) (es : Listed) (v : List ℕ) → lookup (is_key set ci) es ≡ Some v → length es ≤ cap
+    → lookup (is_key s k) (brought_first cap set ci v es) ≡ lookup (is_key s k) es
+found_again cap set ci s k es v is within =
+    let n = length_removed (is_key set ci) es v is in
+    let all : brought_first cap set ci v es ≡ ((set, ci), v) ∷ remove_entry (is_key set ci) es =
+    take_all cap (((set, ci), v) ∷ remove_entry (is_key set ci) es) (omega (arith, n)) in
+    ap (lookup (is_key s k)) all ∙ elim (cases_Bool (is_key s k (set, ci))) [
+      | inl this ↦
+          let a : s ≡ set = grind (arith, nat_tests) in
+          let b : k ≡ ci = grind (arith, nat_tests) in
+          let found : lookup (is_key s k) es ≡ Some v = ap (λ x. lookup (is_key x k) es) a
+          ∙ ap (λ x. lookup (is_key set x) es) b ∙ is in
+          rw (this, found) refl
+      | inr other ↦ rw other (found_without set ci s k es other)
     ]

@@ -48,6 +48,10 @@ first_of (Some bytes) second = Some bytes
 abbrev pub held_at : Held → ℕ → ℕ → Option (List ℕ)
 held_at pool set ci = first_of (bytes_of (pending_at pool set ci)) (clean_at pool set ci)
 
+-- the same intervals are at hand, with the same bytes
+abbrev pub SameAtHand : Held → Held → Type 0
+SameAtHand before after = (set ci : ℕ) → held_at after set ci ≡ held_at before set ci
+
 -- ---- what a get answers
 
 abbrev pub bytes_or : Option (List ℕ) → List ℕ → List ℕ

@@ -32,6 +32,7 @@ pub(crate) fn use_again(clean: &mut Clean, set: u16, ci: u64) -> Result<Bytes, P
     ensures list { IfOk result (λ bytes.
         clean.new ≡ lru_cache (brought_first clean.old.cap set ci bytes clean.old.entries) clean.old.cap) }
     ensures err { OnErr result (clean.new ≡ clean.old) }
+    ensures same { (s k : ℕ) → lookup (is_key s k) clean.new.entries ≡ lookup (is_key s k) clean.old.entries }
     ensures never { result ≢ Err fault.Failed }
 {
     // No effect at run time. The proof reads here that the list is within its bound, which is at least 1.

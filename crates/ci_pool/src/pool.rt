@@ -15,7 +15,7 @@ ghost use Rattle.ci_pool.specs.Cells.{renewed_by, pending_number};
 ghost use Rattle.ci_pool.specs.declared.cell.Waiting.{Waiting as Pending};
 ghost use Rattle.ci_pool.specs.declared.fault.PoolFault.TheVariants as fault;
 ghost use Rattle.ci_pool.specs.declared.pool.Owed.TheVariants as owed;
-ghost use Rattle.ci_pool.specs.Held.{bytes_of, pending_at, staged_at, clean_at, held_at, newest_in, IsClean, HasSize, after_get, IsOldestSealed, NoneSealed, NoneOwes, IsFirstOwed, AreUnsealed, RoseAt, ReadsUpTo};
+ghost use Rattle.ci_pool.specs.Held.{bytes_of, pending_at, staged_at, clean_at, held_at, newest_in, IsClean, HasSize, SameAtHand, after_get, IsOldestSealed, NoneSealed, NoneOwes, IsFirstOwed, AreUnsealed, RoseAt, ReadsUpTo};
 
 use crate::PoolFault;
 use crate::clean::{self, Clean};
@@ -91,6 +91,9 @@ impl Pool {
         // Where the pool has them, the site isn't asked.
         ensures unasked { (bytes : List ℕ) → held_at self.old set ci ≡ Some bytes → site.new ≡ site.old }
         ensures sure { (bytes : List ℕ) → held_at self.old set ci ≡ Some bytes → result ≢ Err fault.Failed }
+
+        // And all that it had at hand it has still.
+        ensures hand { (bytes : List ℕ) → held_at self.old set ci ≡ Some bytes → SameAtHand self.old self.new }
 
         // Else they are read there.
         ensures asked { held_at self.old set ci ≡ None → T.tells_reads site.new set →

@@ -1,6 +1,6 @@
 -- The roots of an anchor, by the newest bytes of its area.
 use Rattle.std.proofs.Common.{◌≡◌, inl, inr, ℕ, zero, suc, ◌+◌, ◌-◌, ◌*◌, ◌<◌, ◌≤◌, ◌^◌, true, false, List, [], ◌∷◌, get_or, length, refl, sym, ◌∙◌, ap, subst, arith}
-use Rattle.std.specs.Prelude.{None, Some, Result, Ok, Err, IfOk, IsSome, min, nat_lt, slice_get}
+use Rattle.std.specs.Prelude.{None, Some, Result, Ok, Err, IfOk, min, nat_lt, slice_get}
 use Rattle.std.proofs.Math.Nat.{zero-min}
 use Rattle.std.proofs.lemmas.Bool.{cases_Bool, cases_eq}
 use Rattle.std.proofs.lemmas.Option.{slice_get_within}
@@ -22,12 +22,11 @@ use Rattle.area_states.specs.States.{HasAnchor, HasState}
 use Rattle.area_states.proofs.Changing.{in_area}
 use Rattle.area_states.proofs.StateLemmas.{one_anchor}
 use Rattle.area_reading.proofs.Readable.{readable}
-use Rattle.dedb_area.specs.Anchors.{AnchorIsPending, AreInTime, AreRootsOf, CountsIntervals, HasAnchorIn, IsAnchorOf, IsBegin, IsDamagedFor, IsFaulty, ShowsArea, ShowsAreas, intervals_of, uncounted, unreadable}
+use Rattle.dedb_area.specs.Anchors.{AnchorIsAtHand, AreInTime, AreRootsOf, CountsIntervals, HasAnchorIn, IsAnchorOf, IsBegin, IsDamagedFor, IsFaulty, ShowsArea, ShowsAreas, intervals_of, uncounted, unreadable}
 use Rattle.dedb_area.specs.Control.{IsControl}
 use Rattle.area_staging.specs.Looking.{LooksAt}
-use Rattle.area_staging.specs.Staging.{AllPending, IsToldPool, KeepsStaging, staged_area, staged_or_newest}
+use Rattle.area_staging.specs.Staging.{AllAtHand, IsToldPool, KeepsStaging, staged_area, staged_or_newest}
 use Rattle.dedb_area.specs.Standing.{AreasStand, Holding}
-use Rattle.area_staging.proofs.Looks.{same_pending}
 use Rattle.dedb_area.proofs.Newest.{reads_newest}
 use Rattle.area_staging.proofs.Staged.{in_pool, newest_same}
 
@@ -114,13 +113,6 @@ module _ {S : Type 0} (told : S → Type 0) (disk : S → Disk) (faults holds : 
         (looks.stays t).contents
         ∙ shown.newest ci below;
   }
-
-  -- and leaves pending what is
-  pub all_pending : (set count size : ℕ) (old new : S) (pool after : Held)
-      → LooksAt told disk faults holds keeps set size old new pool after → AllPending pool set count
-      → AllPending after set count
-  all_pending set count size old new pool after looks all ci below =
-      subst IsSome (sym (same_pending pool after looks.cells set ci)) (all ci below)
 
 -- what is known of staging, said of equal parts
 pub kept_of_equals : {S : Type 0} (told : S → Type 0) (disk : S → Disk) (faults holds : S → ℕ) (keeps : S → S → Type 0)
@@ -258,11 +250,11 @@ module _ (way : Way) (bytes : AreaBytes) (disk : Disk) (areas : Holding) (dedb a
         faulty = found.2;
       })
 
-  pub pending_here : (R : Type 0) → AnchorIsPending areas.places areas.pool (behind way.unsealed bytes) dedb anchor
+  pub at_hand_here : (R : Type 0) → AnchorIsAtHand areas.places areas.pool (behind way.unsealed bytes) dedb anchor
       → ((b : ℕ → List ℕ) → ShowsArea place set disk.contents areas.pool b
-      → AllPending areas.pool set (counted_by (Some place) (b 0)) → R)
+      → AllAtHand areas.pool set (counted_by (Some place) (b 0)) → R)
       → R
-  pending_here R all f = f newest shown (all set place (anchor - place.first_anchor) here)
+  at_hand_here R all f = f newest shown (all set place (anchor - place.first_anchor) here)
 
 -- ---- as the calls on one area answer
 

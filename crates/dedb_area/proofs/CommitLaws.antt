@@ -1,7 +1,7 @@
 -- A commit that is staged is that of the databases.
-use Rattle.std.proofs.Common.{◌≡◌, ◌≢◌, ℕ, ◌+◌, ◌-◌, ◌*◌, ◌<◌, ◌≤◌, ◌^◌, Bool, true, false, List, length, refl, sym, ◌∙◌, ap, subst, arith}
-use Rattle.std.specs.Prelude.{None, Some, Result, Ok, Err, IfOk, OnOk}
+use Rattle.std.proofs.Common.{◌≡◌, ℕ, ◌+◌, ◌-◌, ◌<◌, ◌≤◌, Bool, true, List, [], ◌∷◌, length, refl, sym, ◌∙◌, ap, subst, arith}
 use Rattle.std.specs.List.{AllByRecursion}
+use Rattle.std.specs.Prelude.{None, Some}
 use Rattle.fp_model.specs.Commit.{FillsPart, first_full, with_anchors, with_inserts}
 use Rattle.fp_model.specs.Items.{begins_with_image}
 use Rattle.fp_model.specs.State.{areas_of, first_area_set}
@@ -18,14 +18,21 @@ use Rattle.area_states.specs.declared.place.Place.{Place}
 use Rattle.area_states.specs.Databases.{AreFor, area_in, state_of}
 use Rattle.area_states.specs.Places.{layout_of, place_at, places_of}
 use Rattle.area_states.specs.States.{HasState}
+use Rattle.std.proofs.lemmas.Bool.Decides.{nat_tests}
+use Rattle.fp_model.specs.State.{roots_at}
+use Rattle.root_changes.specs.Differing.{RootsDiffer}
+use Rattle.area_states.specs.Databases.{HasAnchorOf}
+use Rattle.area_states.specs.Places.{has_anchor}
+use Rattle.area_laws.proofs.AnchorAreas.{anchor_area, one_area}
 use Rattle.area_laws.proofs.Areawise.{databases_have, done_in_areas}
+use Rattle.dedb_area.proofs.Ones.{concerned_by}
 use Rattle.area_laws.proofs.FormLemmas.{orders_brought}
 use Rattle.area_laws.proofs.FullLemmas.{first_is_full, none_is_full}
 use Rattle.area_laws.proofs.OrderLemmas.{changed_order, fit_changes_keep_lists, shaped_order}
 use Rattle.area_staging.specs.Items.{is_imaged}
-use Rattle.dedb_area.specs.Anchors.{AreInTime, CountsIntervals, intervals_of}
+use Rattle.dedb_area.specs.Anchors.{AreInTime, CountsIntervals}
 use Rattle.dedb_area.specs.Appending.{MayEnter}
-use Rattle.dedb_area.specs.Committing.{AreStagedUpTo, FitAreas, FitsCommit, IsFirstFull, committed}
+use Rattle.dedb_area.specs.Committing.{AreStagedUpTo, FitAreas, FitsCommit, IsFirstFull, OneSegmentChanges, committed, is_concerned}
 use Rattle.dedb_area.specs.Control.{IsControl}
 use Rattle.dedb_area.specs.Standing.{AreasStand, Holding}
 use Rattle.dedb_area.proofs.AnchorLemmas.{counted_area, first_bytes, some_counted, state_here, within_areas}
@@ -108,4 +115,44 @@ counts_in_time places bytes db set place are ends is =
         is_kind = state.whole.control.is_control.is_kind;
       });
       ends = ends set place is;
+    }
+
+-- ---- one segment
+
+number_of : (place : Place) (dedb anchor : ℕ) → has_anchor place dedb anchor ≡ true
+    → (place.dedb ≡ dedb) × (place.first_anchor + (anchor - place.first_anchor) ≡ anchor)
+number_of place dedb anchor is =
+    let low : place.first_anchor ≤ anchor = grind (arith, nat_tests) in
+    (grind (arith, nat_tests), omega (arith, low))
+
+concerned_has : (place : Place) (c : AnchorChange) → has_anchor place c.dedb c.anchor ≡ true
+    → is_concerned place (c ∷ []) [] ≡ true
+concerned_has place c is = rw is refl
+
+pub one_segment : (defs : Defs) (places : List Place) (db : Db) (changes : List AnchorChange) (inserts : List SeqInsert)
+    (c : AnchorChange) → places ≡ places_of defs → FitsCommit defs db changes inserts → changes ≡ c ∷ []
+    → inserts ≡ [] → RootsDiffer (roots_at db c.dedb c.anchor) c.roots → OneSegmentChanges places db changes inserts
+one_segment defs places db changes inserts c e fits only none differs =
+    let there = (subst (AllByRecursion (HasAnchorOf db)) only fits.there).0 in
+    let area = anchor_area defs db c fits.shaped there in
+    let as_one : (place : Place) → is_concerned place changes inserts ≡ is_concerned place (c ∷ []) [] =
+    λ place. ap (λ cs. is_concerned place cs inserts) only ∙ ap (is_concerned place (c ∷ [])) none in
+    record {
+      each = λ set place is. record {
+        change = c;
+        only = only;
+        no_insert = none;
+        ordered = shaped_order defs set place db fits.shaped (ap (λ ps. place_at ps set) (sym e) ∙ is);
+        differs = λ has.
+            let n = number_of place c.dedb c.anchor has in
+            subst (λ d. RootsDiffer (roots_at db d (place.first_anchor + (c.anchor - place.first_anchor))) c.roots)
+            (sym n.0) (subst (λ a. RootsDiffer (roots_at db c.dedb a) c.roots) (sym n.1) differs);
+      };
+      set = area.set;
+      place = area.place;
+      is_place = ap (λ ps. place_at ps area.set) e ∙ area.is_place;
+      concerned = as_one area.place ∙ concerned_has area.place c area.has;
+      alone = λ other next is concerned.
+          one_area defs other area.set next area.place c.dedb c.anchor (ap (λ ps. place_at ps other) (sym e) ∙ is)
+          area.is_place (concerned_by next c (sym (as_one next) ∙ concerned)) area.has;
     }

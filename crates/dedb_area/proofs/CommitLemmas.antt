@@ -1,6 +1,6 @@
 -- One area as a commit changes it: its items make it so.
-use Rattle.std.proofs.Common.{◌≡◌, ◌≢◌, inl, inr, ℕ, ◌+◌, ◌<◌, ◌≤◌, Bool, true, false, List, [], ◌∷◌, length, drop, get_or, refl, sym, ◌∙◌, ap, subst, arith}
-use Rattle.std.specs.Prelude.{◌||◌, Option, Some, None, Result, Ok, Err, OnOk, filter, slice_index}
+use Rattle.std.proofs.Common.{◌≡◌, inl, inr, ℕ, ◌+◌, ◌<◌, ◌≤◌, Bool, true, false, List, [], ◌∷◌, length, drop, get_or, refl, sym, ◌∙◌, ap, subst, arith}
+use Rattle.std.specs.Prelude.{◌||◌, Option, Some, None, Result, Ok, Err, OnOk, slice_index}
 use Rattle.std.specs.List.{AllByRecursion, list_any}
 use Rattle.std.proofs.lemmas.Bool.{cases_Bool, or_parts}
 use Rattle.fp_model.specs.Commit.{is_too_full}
@@ -13,10 +13,10 @@ use Rattle.ci_overflow.specs.Lists.{bytes_at, counted}
 use Rattle.ci_overflow.specs.Places.{first_independent}
 use Rattle.held_intervals.specs.Holding.{held_or, listed, Changes}
 use Rattle.held_intervals.proofs.Holds.{listed_same}
-use Rattle.area_redo.specs.Redo.{names, redone_at}
+use Rattle.area_redo.specs.Redo.{redone_at}
 use Rattle.area_redo.proofs.Items.{redone_none}
 use Rattle.area_states.specs.declared.place.Place.{Place}
-use Rattle.area_states.specs.Changes.{HasRoom, IsTooFull, count_of, takes, with_changes}
+use Rattle.area_states.specs.Changes.{HasRoom, IsTooFull, count_of, with_changes}
 use Rattle.area_states.proofs.Loops.{none_left, rest_at}
 use Rattle.area_states.specs.Places.{counted_by, has_anchor}
 use Rattle.area_states.specs.States.{AreaState, HasState}

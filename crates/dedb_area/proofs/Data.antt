@@ -1,6 +1,6 @@
 -- Data sets that are areas.
-use Rattle.std.proofs.Common.{◌≡◌, inl, inr, ℕ, ◌-◌, ◌*◌, ◌≤◌, zero, suc, length, List, [], ◌∷◌, subst, refl, arith}
-use Rattle.std.specs.Prelude.{nat_lt, slice_get, Option, Some, None, IsSome, IsTrue}
+use Rattle.std.proofs.Common.{◌≡◌, inl, inr, ℕ, ◌-◌, ◌≤◌, zero, suc, List, [], ◌∷◌, subst, arith}
+use Rattle.std.specs.Prelude.{nat_lt, slice_get, Some, None, IsSome, IsTrue}
 use Rattle.std.proofs.lemmas.Bool.{cases_Bool}
 use Rattle.std.proofs.lemmas.Bool.Decides.{nat_tests}
 use Rattle.ci_space.specs.Interval.{is_size}

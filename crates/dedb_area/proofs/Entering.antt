@@ -1,5 +1,5 @@
 -- What is staged becomes pending for an entry: the areas stand behind it.
-use Rattle.std.proofs.Common.{◌≡◌, inl, inr, ℕ, ◌-◌, ◌<◌, ◌^◌, ◌++◌, ◌∷◌, [], Bool, true, false, List, refl, sym, ◌∙◌, ap, subst}
+use Rattle.std.proofs.Common.{◌≡◌, inl, inr, ℕ, ◌-◌, ◌<◌, ◌^◌, ◌∷◌, [], Bool, true, false, List, refl, sym, ◌∙◌, ap, subst}
 use Rattle.std.specs.Prelude.{◌||◌, if◌then◌else◌, Option, Some, None}
 use Rattle.std.proofs.lemmas.Bool.{cases_Bool}
 use mathlib.Core.Path.{fun_ext}
@@ -7,7 +7,7 @@ use Rattle.fp_site.specs.Disk.{Disk}
 use Rattle.fp_model.specs.declared.log.Entry.{Entry}
 use Rattle.ci_pool.specs.declared.cell.Waiting.{Waiting}
 use Rattle.ci_pool.specs.Cells.{renewed, renewed_by}
-use Rattle.ci_pool.specs.Held.{Held, pending_at, staged_at}
+use Rattle.ci_pool.specs.Held.{pending_at}
 use Rattle.area_redo.specs.Redo.{AreaBytes, GrowByImages, names, redone_at}
 use Rattle.area_redo.specs.Standing.{Way, Stands, BeginsSinceMark, behind, with_entry}
 use Rattle.area_redo.specs.Standing.{renewed as due_renewed}
@@ -20,7 +20,6 @@ use Rattle.area_states.specs.Places.{layout_of}
 use Rattle.area_staging.specs.Changing.{AreStagedBy}
 use Rattle.dedb_area.specs.Appending.{IsPublished, StagedStand}
 use Rattle.area_staging.specs.Items.{is_imaged}
-use Rattle.dedb_area.specs.Publishing.{ArePublished}
 use Rattle.dedb_area.specs.Standing.{AreSynced, AreasStand, Holding, PoolStands, due_of, owed_of}
 
 due_of_renewed : (place : ℕ) (bytes : List ℕ) (w : Option Waiting)

@@ -22,3 +22,8 @@ pub mod Staying
 pub mod CommitLaws
 pub mod ChangedLemmas
 pub mod StageLemmas
+pub mod Fitting
+pub mod Opened
+pub mod Ones
+pub mod PurgeDatabases
+pub mod Sent

@@ -1,5 +1,5 @@
 -- Calls that change no area.
-use Rattle.std.proofs.Common.{◌≡◌, ℕ, ◌+◌, Bool, List, refl, sym, ◌∙◌, ap, subst, arith}
+use Rattle.std.proofs.Common.{◌≡◌, ℕ, ◌+◌, Bool, List, refl, sym, ◌∙◌, ap, subst}
 use Rattle.std.specs.Prelude.{Some}
 use mathlib.Core.Path.{fun_ext}
 use Rattle.fp_site.specs.Disk.{Disk, IsLawful}

@@ -1,13 +1,16 @@
 -- The item of a Purge.
-use Rattle.std.proofs.Common.{◌≡◌, ℕ, Bool, true, false, List, [], ◌∷◌, length, refl, sym, ◌∙◌, ap}
+use Rattle.std.proofs.Common.{◌≡◌, ◌≤◌, ℕ, Bool, true, false, List, [], ◌∷◌, length, sym, ◌∙◌, ap}
 use Rattle.std.specs.Prelude.{◌==◌, ◌&&◌, if◌then◌else◌, Option, Some, None}
+use Rattle.std.specs.List.{AllByRecursion}
 use Rattle.std.proofs.lemmas.Bool.Decides.{nat_tests}
 use Rattle.std.proofs.Common.{arith}
 use Rattle.fp_model.specs.ItemTargets.{names_interval}
 use Rattle.fp_model.specs.declared.log.Item.{Item}
 use Rattle.ci_pool.specs.Held.{Held}
 use Rattle.area_redo.specs.Redo.{AreaBytes, names, put, redone_at}
-use Rattle.area_staging.specs.Changing.{AreStagedBy}
+use Rattle.area_staging.specs.declared.extent.Extent.{Extent}
+use Rattle.area_staging.specs.Changing.{AreStagedBy, IsFitFor}
+use Rattle.area_staging.proofs.Steps.{fit_change}
 use Rattle.area_staging.specs.Items.{IsChange, IsItemOf}
 use Rattle.area_staging.proofs.ItemLemmas.{names_item, names_one, put_item}
 use Rattle.area_staging.specs.Items.{items_in}
@@ -52,3 +55,10 @@ pub staged_by : (n set : ℕ) (flag : Bool) (control : List ℕ) (pool : Held) (
     → IsPurgeStaged n set flag control pool item → newest set 0 ≡ control → AreStagedBy (items_in item) newest pool
 staged_by n set flag control pool item newest p is =
     by_change set flag control p.new pool item newest (sym p.purged.ends.same_size) p.change p.staged is
+
+-- it fits
+pub control_fits : (flag : Bool) (set : ℕ) (old now new : List ℕ) (item : Item) → now ≡ new → length new ≤ 4096
+    → IsChange flag set 0 old now (Some item) → AllByRecursion (IsFitFor set (length new)) (items_in (Some item))
+control_fits flag set old now new item same short change =
+    let area : Extent = record { set = set; size = length new; count = 0 } in
+    ((fit_change flag area 0 old now (Some item) (ap length same) (omega (arith, short)) change).0, tt)

@@ -1,30 +1,27 @@
 -- What stays while areas are staged, and how they stand with it.
-use Rattle.std.proofs.Common.{◌≡◌, ◌≢◌, inl, inr, ℕ, ◌+◌, ◌-◌, ◌<◌, ◌≤◌, Bool, true, false, List, length, refl, sym, ◌∙◌, ap, subst, arith}
+use Rattle.std.proofs.Common.{◌≡◌, ℕ, ◌+◌, Bool, false, List, refl, sym, ◌∙◌, ap, subst, arith}
 use Rattle.std.specs.Prelude.{Contains, Option, Some, None, IsSome, slice_get}
 use mathlib.Core.Path.{fun_ext}
-use Rattle.std.proofs.lemmas.Bool.{cases_eq}
 use Rattle.fp_site.specs.Disk.{Disk, IsLawful}
 use Rattle.fp_site.proofs.Images.{durable_stays}
-use Rattle.fp_site.proofs.Runs.{elapses_none, stays_then}
+use Rattle.fp_site.proofs.Runs.{stays_then}
 use Rattle.fp_model.specs.Items.{items_of}
 use Rattle.fp_model.specs.State.{first_area_set}
-use Rattle.ci_pool.specs.declared.cell.Waiting.{Waiting}
-use Rattle.ci_pool.specs.Held.{Held, HasSize, IsClean, newest_in, pending_at, staged_at}
+use Rattle.ci_pool.specs.Held.{Held, HasSize, pending_at}
 use Rattle.area_redo.specs.Redo.{AreaBytes, Layout}
 use Rattle.area_redo.specs.Standing.{MayOpen, Stands, Way, since_mark}
 use Rattle.area_redo.specs.Steps.{SparesAreas}
 use Rattle.area_redo.proofs.Areas.{spared_through, stays_spares}
 use Rattle.area_redo.proofs.Opening.{may_spared, spared}
 use Rattle.area_states.specs.declared.place.Place.{Place}
-use Rattle.area_states.specs.Places.{counted_by, layout_of, place_at}
+use Rattle.area_states.specs.Places.{layout_of, place_at}
 use Rattle.area_staging.specs.Changing.{Stages}
 use Rattle.area_staging.specs.Items.{is_imaged}
 use Rattle.area_staging.specs.Looking.{stays_itself}
-use Rattle.area_staging.specs.Staging.{AllPending}
 use Rattle.area_staging.proofs.Stages.{newest_stays}
-use Rattle.dedb_area.specs.Anchors.{ShowsArea, ShowsAreas}
+use Rattle.dedb_area.specs.Anchors.{ShowsAreas}
 use Rattle.dedb_area.specs.Appending.{StagedStand, StagesInAreas}
-use Rattle.dedb_area.specs.Committing.{AreSized, StagesAll}
+use Rattle.dedb_area.specs.Committing.{StagesAll}
 use Rattle.dedb_area.specs.Publishing.{IsFitStaged}
 use Rattle.dedb_area.specs.Standing.{AreasStand, Holding, IsFitPool, IsUnstaged, due_of, owed_of}
 
@@ -88,10 +85,6 @@ module _ {S : Type 0} (told : S → Type 0) (disk : S → Disk) (faults holds : 
             place.shape.ci (stages.pending set ci) (stages.stays t).contents
             ∙ here.newest ci below;
       }
-
-  pub all_pending_still : (a b : S) (p q : Held) (set count : ℕ) → StagesAll told disk faults holds keeps places a b p q
-      → AllPending p set count → AllPending q set count
-  all_pending_still a b p q set count stages all ci below = subst IsSome (sym (stages.pending set ci)) (all ci below)
 
   -- ---- the areas
 

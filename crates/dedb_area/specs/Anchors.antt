@@ -9,7 +9,7 @@ use Rattle.area_states.specs.Places.{LiesIn, counted_by, place_at}
 use Rattle.area_states.specs.States.{HasAnchor}
 use Rattle.area_reading.specs.Damage.{IsUnreadable}
 use Rattle.dedb_area.specs.Control.{IsControl}
-use Rattle.area_staging.specs.Staging.{AllPending, IsToldPool}
+use Rattle.area_staging.specs.Staging.{AllAtHand, IsToldPool}
 
 -- ---- an area
 
@@ -49,11 +49,11 @@ pub record AreRootsOf (places : List Place) (bytes : AreaBytes) (dedb anchor : �
   pub is : IsAnchorOf places dedb anchor set place number
   pub has : HasAnchor place (intervals_of place (bytes set)) number roots
 
--- each interval of the areas that have the anchor waits to be written
-abbrev pub AnchorIsPending : List Place → Held → AreaBytes → ℕ → ℕ → Type 0
-AnchorIsPending places pool bytes dedb anchor =
+-- each interval of the areas that have the anchor is at hand
+abbrev pub AnchorIsAtHand : List Place → Held → AreaBytes → ℕ → ℕ → Type 0
+AnchorIsAtHand places pool bytes dedb anchor =
     (set : ℕ) (place : Place) (number : ℕ) → IsAnchorOf places dedb anchor set place number
-    → AllPending pool set (counted_by (Some place) (bytes set 0))
+    → AllAtHand pool set (counted_by (Some place) (bytes set 0))
 
 -- ---- damage
 

@@ -1,11 +1,11 @@
 -- What is staged of areas becomes pending for an entry, and how the areas stand with it.
-use Rattle.std.specs.Prelude.{◌≡◌, ℕ, ◌-◌, ◌<◌, ◌≤◌, ◌^◌, false, true, List, Some, None}
+use Rattle.std.specs.Prelude.{◌≡◌, ℕ, ◌-◌, ◌<◌, ◌≤◌, ◌^◌, List}
 use Rattle.fp_site.specs.Disk.{Disk, Stays}
 use Rattle.fp_model.specs.declared.log.Entry.{Entry}
 use Rattle.fp_model.specs.declared.log.Item.{Item}
 use Rattle.fp_model.specs.Items.{items_of}
-use Rattle.ci_pool.specs.Held.{Held, pending_at, staged_at, IsClean}
-use Rattle.area_redo.specs.Redo.{AreaBytes, GrowByImages, RedoesThrough, names, redone_at}
+use Rattle.ci_pool.specs.Held.{pending_at, IsClean}
+use Rattle.area_redo.specs.Redo.{AreaBytes, GrowByImages, RedoesThrough}
 use Rattle.area_redo.specs.Standing.{Way, BeginsSinceMark, behind, since_mark}
 use Rattle.area_redo.specs.Steps.{AreImaged}
 use Rattle.area_states.specs.Places.{layout_of}

@@ -1,5 +1,5 @@
 -- Changed anchors and sequential inserts of a commit, staged.
-use Rattle.std.specs.Prelude.{◌≡◌, ◌≢◌, ◌⊎◌, ⊤, ℕ, ◌+◌, ◌-◌, ◌*◌, ◌<◌, ◌≤◌, ◌^◌, ◌||◌, Bool, true, false, List, length, IsSome, Some}
+use Rattle.std.specs.Prelude.{◌≡◌, ◌≢◌, ℕ, ◌+◌, ◌<◌, ◌≤◌, ◌||◌, Bool, true, false, List, [], ◌∷◌, length, IsSome, None, Some}
 use Rattle.std.specs.List.{AllByRecursion, list_any}
 use Rattle.fp_model.specs.declared.calls.AnchorChange.{AnchorChange}
 use Rattle.fp_model.specs.declared.calls.SeqInsert.{SeqInsert}
@@ -16,14 +16,13 @@ use Rattle.held_intervals.specs.Holding.{Changes, held_or, listed}
 use Rattle.ci_pool.specs.Held.{Held, HasSize, IsClean, pending_at, staged_at}
 use Rattle.area_redo.specs.Redo.{AreaBytes, ComesWhole, GrowByImages, names, redone, redone_at}
 use Rattle.area_states.specs.declared.place.Place.{Place}
-use Rattle.area_states.specs.Changes.{AllKeepLists, AreOrdered, HasRoom, IsInsertable, IsStorable, IsTooFull, count_of, with_changes, with_inserts}
+use Rattle.area_states.specs.Changes.{AllKeepLists, AreOrdered, ChangesOne, HasRoom, IsInsertable, IsStorable, IsTooFull, count_of, with_changes, with_inserts}
 use Rattle.area_states.specs.Databases.{HasAnchorOf, state_of}
 use Rattle.area_states.specs.Places.{counted_by, has_anchor, layout_of, place_at}
 use Rattle.area_states.specs.States.{AreaState, HasState}
 use Rattle.state_laws.specs.Parts.{FitsAnchorChange, FitsSeqInsert, changes_ascend}
-use Rattle.area_staging.specs.declared.extent.Extent.{Extent}
 use Rattle.area_staging.specs.Changing.{AreStagedBy}
-use Rattle.area_staging.specs.Staging.{AllPending}
+use Rattle.area_staging.specs.Staging.{AllAtHand}
 use Rattle.dedb_area.specs.Anchors.{IsBegin, intervals_of}
 use Rattle.dedb_area.specs.Applying.{IsFitInterval}
 
@@ -94,6 +93,24 @@ pub record MakesArea (place : Place) (set : ℕ) (imaged : ℕ → Bool) (bytes 
       → redone_at set ci items (bytes ci) ≢ bytes ci
   pub has : HasState place (intervals_of place (λ ci. redone_at set ci items (bytes ci))) state
 
+-- ---- one segment
+
+-- One anchor is changed and no insert comes, and of an area of this state the keys of each anchor's roots ascend: the
+-- change's roots differ in one segment from those that it has there.
+pub record ChangesOneSegment (place : Place) (state : AreaState) (changes : List AnchorChange)
+    (inserts : List SeqInsert) : Type 0 where
+  pub change : AnchorChange
+  pub only : changes ≡ change ∷ []
+  pub no_insert : inserts ≡ []
+  pub ordered : AreOrdered place state
+  pub differs : ChangesOne place state change
+
+-- of so many intervals with these bytes at most one changes, and none is new
+pub record OneChanged (count : ℕ) (bytes : ℕ → List ℕ) (changed : Changes) : Type 0 where
+  pub ci : ℕ
+  pub others : (k : ℕ) → k < count → k ≢ ci → held_or (changed k) (bytes k) ≡ bytes k
+  pub none_new : (k : ℕ) → count ≤ k → changed k ≡ None
+
 -- ---- all areas
 
 -- an item of an interval of an area, within its size, that ends at or before byte 2^62
@@ -133,11 +150,23 @@ has_insert place inserts = list_any (λ i. has_anchor place i.dedb i.anchor) ins
 abbrev pub is_concerned : Place → List AnchorChange → List SeqInsert → Bool
 is_concerned place changes inserts = has_change place changes || has_insert place inserts
 
--- each interval of the areas that a change or an insert is of waits to be written
-abbrev pub ConcernedArePending : List Place → Held → AreaBytes → List AnchorChange → List SeqInsert → Type 0
-ConcernedArePending places pool bytes changes inserts =
+-- Of databases one segment changes: so it is of each area, and just one is concerned.
+pub record OneSegmentChanges (places : List Place) (db : Db) (changes : List AnchorChange)
+    (inserts : List SeqInsert) : Type 0 where
+  pub each : (set : ℕ) (place : Place) → place_at places set ≡ Some place
+      → ChangesOneSegment place (state_of place db) changes inserts
+  pub set : ℕ
+  pub place : Place
+  pub is_place : place_at places set ≡ Some place
+  pub concerned : is_concerned place changes inserts ≡ true
+  pub alone : (other : ℕ) (next : Place) → place_at places other ≡ Some next
+      → is_concerned next changes inserts ≡ true → other ≡ set
+
+-- each interval of the areas that a change or an insert is of is at hand
+abbrev pub ConcernedAreAtHand : List Place → Held → AreaBytes → List AnchorChange → List SeqInsert → Type 0
+ConcernedAreAtHand places pool bytes changes inserts =
     (set : ℕ) (place : Place) → place_at places set ≡ Some place → is_concerned place changes inserts ≡ true
-    → AllPending pool set (counted_by (Some place) (bytes set 0))
+    → AllAtHand pool set (counted_by (Some place) (bytes set 0))
 
 -- a byte at which an interval of an area begins
 pub record IsBeginIn (places : List Place) (set at : ℕ) : Type 0 where

@@ -4,6 +4,7 @@ pub mod Control
 pub mod Looking
 pub mod Applying
 pub mod Formatting
+pub mod Opening
 pub mod Anchors
 pub mod Publishing
 pub mod Appending

@@ -1,5 +1,5 @@
 -- Control of an area behind a Purge.
-use Rattle.std.specs.Prelude.{◌≡◌, ℕ, ◌+◌, ◌==◌, ◌&&◌, Bool, if◌then◌else◌, List, [], ◌∷◌, min, Option, Some, None}
+use Rattle.std.specs.Prelude.{◌≡◌, ℕ, ◌+◌, ◌==◌, ◌&&◌, Bool, if◌then◌else◌, List, min, Option, Some, None}
 use Rattle.ci_space.specs.Interval.{IsInterval}
 use Rattle.fp_model.specs.declared.log.Item.{Item}
 use Rattle.ci_pool.specs.Held.{Held, pending_at, staged_at}

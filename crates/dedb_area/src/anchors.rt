@@ -9,7 +9,8 @@ ghost use Rattle.area_states.specs.Places.{IsPlace, counted_by, has_anchor};
 ghost use Rattle.area_states.specs.States.{HasAnchor};
 ghost use Rattle.dedb_area.specs.Anchors.{HasAnchorIn, IsBegin, IsFaulty, ShowsArea, intervals_of};
 ghost use Rattle.area_staging.specs.Looking.{LooksAt};
-ghost use Rattle.area_staging.specs.Staging.{AllPending};
+ghost use Rattle.area_staging.specs.Staging.{AllAtHand};
+ghost use Rattle.ci_pool.specs.Held.{SameAtHand};
 ghost use Rattle.dedb_area.specs.declared.fault.AreaFault.TheVariants as fault;
 
 use crate::AreaFault;
@@ -83,8 +84,9 @@ fn read_through<T: Site>(
         → (ci : ℕ) → result ≡ Err (AnchorFault.Damaged ci)
         → IsUnreadable place.now (intervals_of place.now bytes) anchor ci }
     ensures failed { IsErrOf result AnchorFault.Failed → Rose (T.faults site.old) (T.faults site.new) }
-    ensures unread { AllPending pool.old set count → ReadsNothing (T.tells_reads site.old) (T.tells_reads site.new)
+    ensures unread { AllAtHand pool.old set count → ReadsNothing (T.tells_reads site.old) (T.tells_reads site.new)
         (T.bytes_read site.old) (T.bytes_read site.new) }
+    ensures hand { AllAtHand pool.old set count → SameAtHand pool.old pool.new }
     ensures looks { LooksAt T.told T.disk T.faults T.holds T.keeps set place.now.shape.ci site.old site.new pool.old
         pool.new }
 {
@@ -161,9 +163,12 @@ pub(crate) fn roots_at<T: Site>(
     ensures never_full { (s begin end n : ℕ) → result ≢ Err (fault.SeqFull s begin end n) }
     ensures unread { T.told site.old → (bytes : ℕ → List ℕ)
         → ShowsArea place.now set (T.disk site.old).contents pool.old bytes
-        → AllPending pool.old set (counted_by (Some place.now) (bytes 0))
+        → AllAtHand pool.old set (counted_by (Some place.now) (bytes 0))
         → ReadsNothing (T.tells_reads site.old) (T.tells_reads site.new) (T.bytes_read site.old)
         (T.bytes_read site.new) }
+    ensures hand { T.told site.old → (bytes : ℕ → List ℕ)
+        → ShowsArea place.now set (T.disk site.old).contents pool.old bytes
+        → AllAtHand pool.old set (counted_by (Some place.now) (bytes 0)) → SameAtHand pool.old pool.new }
     ensures looks { LooksAt T.told T.disk T.faults T.holds T.keeps set place.now.shape.ci site.old site.new pool.old
         pool.new }
 {

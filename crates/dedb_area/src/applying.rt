@@ -1,9 +1,13 @@
 //! Items of the log, applied to the intervals at hand.
 
-ghost use Rattle.std.specs.Prelude.{◌≡◌, ◌≢◌, ◌+◌, ◌-◌, ◌*◌, ◌<◌, ◌≤◌, ◌^◌, ℕ, [], ◌∷◌, ◌++◌, List, Some, None, Err, IfOk, OnOk, OnErr, length, take, drop};
+ghost use Rattle.std.specs.Prelude.{◌≡◌, ◌≢◌, ◌+◌, ◌-◌, ◌*◌, ◌<◌, ◌≤◌, ◌^◌, ℕ, [], ◌∷◌, ◌++◌, List as ListOf, Some, None, Err, IfOk, OnOk, OnErr, length, take, drop};
 ghost use Rattle.std.specs.List.{AllByRecursion};
 ghost use Rattle.ci_pool.specs.declared.cell.Waiting.{Waiting as Pending};
 ghost use Rattle.ci_pool.specs.Held.{pending_at, IsClean, HasSize};
+ghost use Rattle.fp_model.specs.Items.{IsFit};
+ghost use Rattle.fp_model.specs.declared.definitions.Defs.{Defs as DefsOf};
+ghost use Rattle.fp_model.specs.declared.log.Item.{Item as ItemOf};
+ghost use Rattle.area_states.specs.Places.{places_of};
 ghost use Rattle.fp_site.specs.Disk.{written};
 ghost use Rattle.dedb_area.specs.Applying.{IsApplied, IsPended, EndsInTime, IsFitImage, IsAppliable, IsWithoutImage, AreAppliable, LacksImage, LiesWithin};
 ghost use Rattle.dedb_area.specs.Standing.{IsFitPool, IsUnstaged};
@@ -86,7 +90,7 @@ fn pend(pool: &mut Pool, set: u16, ci: u64, bytes: Bytes, place: u64) -> Result<
     ensures pending { IsUnstaged pool.old → OnOk result (IsPended place set ci bytes pool.old pool.new) }
     ensures unstaged { IsUnstaged pool.old → IsUnstaged pool.new }
     ensures err { OnErr result (pool.new ≡ pool.old) }
-    ensures clean { (contents : ℕ → List ℕ) → IsClean contents pool.old → IsClean contents pool.new }
+    ensures clean { (contents : ℕ → ListOf ℕ) → IsClean contents pool.old → IsClean contents pool.new }
     ensures sizes { (s n : ℕ) → (s ≡ set → length bytes ≡ n) → HasSize s n pool.old → HasSize s n pool.new }
 {
     pool.stage(set, ci, bytes)?;
@@ -102,9 +106,9 @@ fn apply_item(alloc: Global, pool: &mut Pool, item: &Item, place: u64) -> Result
     ensures lacks { (s k : ℕ) → result ≡ Err (fault.NoImage s k) → IsWithoutImage pool.old item.now s k }
     ensures unstaged { IsUnstaged pool.old → IsUnstaged pool.new }
     ensures err { OnErr result (pool.new ≡ pool.old) }
-    ensures fit { (places : List PlaceOf) → IsFitImage places item.now → place < 2 ^ 64 - 1
+    ensures fit { (places : ListOf PlaceOf) → IsFitImage places item.now → place < 2 ^ 64 - 1
         → IsFitPool places pool.old → IsFitPool places pool.new }
-    ensures clean { (contents : ℕ → List ℕ) → IsClean contents pool.old → IsClean contents pool.new }
+    ensures clean { (contents : ℕ → ListOf ℕ) → IsClean contents pool.old → IsClean contents pool.new }
 {
     match item {
         Item::Segment { .. } => Ok(()),
@@ -132,15 +136,21 @@ pub(crate) fn apply_items(
     ensures appliable { IsUnstaged pool.old → OnOk result (AreAppliable place pool.old items.now) }
     ensures lacks { IsUnstaged pool.old → (s k : ℕ) → result ≡ Err (fault.NoImage s k)
         → LacksImage place pool.old items.now s k }
-    ensures fit { (places : List PlaceOf) → AllByRecursion (IsFitImage places) items.now → place < 2 ^ 64 - 1
+    ensures fit { (places : ListOf PlaceOf) → AllByRecursion (IsFitImage places) items.now → place < 2 ^ 64 - 1
         → IsFitPool places pool.old → IsFitPool places pool.new }
-    ensures clean { (contents : ℕ → List ℕ) → IsClean contents pool.old → IsClean contents pool.new }
+    ensures clean { (contents : ℕ → ListOf ℕ) → IsClean contents pool.old → IsClean contents pool.new }
 {
     for item in items {
         apply_item(alloc, pool, item, place)?;
     }
     Ok(())
 }
+
+/// Items that fit the definitions may be applied to their areas: each image is an interval of an area.
+pub fn items_that_fit_may_be_applied()
+    ensures { (defs : DefsOf) (items : ListOf ItemOf) → AllByRecursion (IsFit defs) items
+        → AllByRecursion (IsFitImage (places_of defs)) items }
+{}
 
 impl Areas {
     /// Applies the items of the entry at a place, which a restart takes from the log: each interval that they name is
@@ -161,7 +171,7 @@ impl Areas {
 
         // What stays.
         ensures fit { IsFitPool self.old.places self.old.pool → IsFitPool self.new.places self.new.pool }
-        ensures clean { (contents : ℕ → List ℕ) → IsClean contents self.old.pool → IsClean contents self.new.pool }
+        ensures clean { (contents : ℕ → ListOf ℕ) → IsClean contents self.old.pool → IsClean contents self.new.pool }
         ensures places { self.new.places ≡ self.old.places }
         ensures imaged { self.new.imaged ≡ self.old.imaged }
         ensures unsynced { self.new.unsynced ≡ self.old.unsynced }

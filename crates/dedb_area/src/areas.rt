@@ -6,17 +6,22 @@ ghost use Rattle.fp_site.specs.Site.{Counts, ReadsNothing};
 ghost use Rattle.fp_model.specs.State.{first_area_set, roots_at};
 ghost use Rattle.fp_model.specs.WellFormed.{AreDefs};
 ghost use Rattle.ci_space.specs.Calls.{Rose};
-ghost use Rattle.ci_pool.specs.Held.{pending_at, IsOldestSealed, NoneSealed, NoneOwes, IsFirstOwed, AreUnsealed};
+ghost use Rattle.ci_pool.specs.Held.{SameAtHand, pending_at, IsOldestSealed, NoneSealed, NoneOwes, IsFirstOwed, AreUnsealed};
 ghost use Rattle.ci_pool.specs.declared.cell.Waiting.{Waiting as Pending};
 ghost use Rattle.ci_pool.specs.declared.pool.Owed.TheVariants as owed;
 ghost use Rattle.area_redo.specs.Redo.{AreaBytes};
 ghost use Rattle.area_redo.specs.Standing.{Way, sealed_of, behind};
 ghost use Rattle.fp_model.specs.declared.database.Db.{Db};
+ghost use Rattle.fp_model.specs.declared.definitions.DedbDef.{DedbDef as DedbDefOf};
+ghost use Rattle.fp_model.specs.declared.definitions.Defs.{Defs as DefsOf};
+ghost use Rattle.fp_model.specs.Shape.{IsDbOf};
+ghost use Rattle.area_laws.specs.Areas.{AreSentTo};
 ghost use Rattle.area_states.specs.Databases.{AreFor};
-ghost use Rattle.dedb_area.specs.Anchors.{AnchorIsPending, AreInTime, AreRootsOf, HasAnchorIn, IsDamagedFor};
+ghost use Rattle.dedb_area.specs.Anchors.{AnchorIsAtHand, AreInTime, AreRootsOf, HasAnchorIn, IsDamagedFor};
 ghost use Rattle.dedb_area.specs.Control.{ends_in, IsControlOf};
 ghost use Rattle.area_staging.specs.Items.{is_imaged};
 ghost use Rattle.dedb_area.specs.Looking.{LooksAtAreas};
+ghost use Rattle.dedb_area.specs.Opening.{AreOpened};
 ghost use Rattle.area_states.specs.Places.{places_of, place_at};
 ghost use Rattle.area_states.specs.declared.place.Place.{Place as PlaceOf};
 ghost use Rattle.dedb_area.specs.declared.fault.AreaFault.TheVariants as fault;
@@ -76,6 +81,9 @@ impl Areas {
         ensures count { IfOk result (λ areas. length areas.unsynced ≡ length areas.places) }
         ensures synced { IfOk result (λ areas. (number : ℕ) → slice_get areas.unsynced number ≢ Some true) }
         ensures unimaged { IfOk result (λ areas. (set ci : ℕ) → is_imaged areas.imaged set ci ≡ false) }
+
+        // With an empty pool they are opened: `formatted_areas_stand` says how they stand then.
+        ensures opened { pool.clean ≡ [] → pool.cells ≡ [] → IfOk result (AreOpened (places_of defs.now)) }
     {
         let places = places_of(alloc, defs)?;
         let unsynced = vec![in alloc; false; places.len()]?;
@@ -150,6 +158,12 @@ impl Areas {
             → AreFor self.old.places (behind way.unsealed bytes) db
             → IfOk result (λ roots. roots ≡ roots_at db dedb anchor) }
 
+        // Where the databases have the shape of the definitions, each root's key is one that is sent to this anchor.
+        ensures sent { T.told site.old → (way : Way) (bytes : AreaBytes) (defs : DefsOf) (db : Db) (def : DedbDefOf)
+            → AreasStand way bytes (T.disk site.old) self.old → self.old.places ≡ places_of defs
+            → AreFor self.old.places (behind way.unsealed bytes) db → IsDbOf defs db
+            → slice_get defs.dedbs dedb ≡ Some def → IfOk result (AreSentTo def anchor) }
+
         // The interval that it names is at fault, and where the bytes stand for databases there is none.
         ensures damaged { T.told site.old → (way : Way) (bytes : AreaBytes)
             → AreasStand way bytes (T.disk site.old) self.old → (set at : ℕ)
@@ -163,12 +177,16 @@ impl Areas {
         ensures failed { IsErrOf result fault.Device → Rose (T.faults site.old) (T.faults site.new) }
         ensures never_full { (s begin end n : ℕ) → result ≢ Err (fault.SeqFull s begin end n) }
 
-        // Where each interval of the area is pending, no byte of the site is read.
+        // Where each interval of the area is pending or clean, no byte of the site is read, and all that is at hand stays.
         ensures unread { T.told site.old → (way : Way) (bytes : AreaBytes)
             → AreasStand way bytes (T.disk site.old) self.old
-            → AnchorIsPending self.old.places self.old.pool (behind way.unsealed bytes) dedb anchor
+            → AnchorIsAtHand self.old.places self.old.pool (behind way.unsealed bytes) dedb anchor
             → ReadsNothing (T.tells_reads site.old) (T.tells_reads site.new) (T.bytes_read site.old)
             (T.bytes_read site.new) }
+        ensures hand { T.told site.old → (way : Way) (bytes : AreaBytes)
+            → AreasStand way bytes (T.disk site.old) self.old
+            → AnchorIsAtHand self.old.places self.old.pool (behind way.unsealed bytes) dedb anchor
+            → SameAtHand self.old.pool self.new.pool }
 
         // No area changes; the pool may have other clean intervals.
         ensures looks { LooksAtAreas T.told T.disk T.faults T.holds T.keeps site.old site.new self.old self.new }

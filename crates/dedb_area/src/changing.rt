@@ -7,14 +7,15 @@ ghost use Rattle.std.specs.BTreeMap.{get};
 ghost use Rattle.fp_site.specs.Site.{ReadsNothing};
 ghost use Rattle.ci_space.specs.Calls.{Rose, GoesOn};
 ghost use Rattle.held_intervals.specs.Holding.{listed};
-ghost use Rattle.area_states.specs.Changes.{IsInsertable, IsStorable, IsTooFull};
+ghost use Rattle.area_states.specs.Changes.{IsInsertable, IsStorable, IsTooFull, OneChanges};
 ghost use Rattle.area_states.specs.Places.{IsPlace};
 ghost use Rattle.area_states.specs.States.{AreaState, HasState};
 ghost use Rattle.area_staging.specs.Changing.{AreWithin, Shows};
 ghost use Rattle.area_staging.specs.Looking.{LooksAt};
-ghost use Rattle.area_staging.specs.Staging.{AllPending};
+ghost use Rattle.area_staging.specs.Staging.{AllAtHand};
+ghost use Rattle.ci_pool.specs.Held.{SameAtHand};
 ghost use Rattle.dedb_area.specs.Anchors.{IsBegin};
-ghost use Rattle.dedb_area.specs.Committing.{FitsArea, HasRoomFor, IsChangedTo, committed};
+ghost use Rattle.dedb_area.specs.Committing.{ChangesOneSegment, FitsArea, HasRoomFor, IsChangedTo, OneChanged, committed};
 ghost use Rattle.dedb_area.specs.declared.fault.AreaFault.TheVariants as fault;
 
 use crate::AreaFault;
@@ -58,6 +59,9 @@ fn change_all<I: Intervals>(
         → FitsArea place.now state changes.now
         → OnOk result (HasState place.now (I.intervals i.new)
         (committed place.now changes.now inserts.now state)) }
+    ensures one { I.told i.old → (state : AreaState) → HasState place.now (I.intervals i.old) state
+        → FitsArea place.now state changes.now → ChangesOneSegment place.now state changes.now inserts.now
+        → OnOk result (OneChanges (I.intervals i.old) (I.intervals i.new)) }
     ensures room { I.told i.old → (state : AreaState) → HasState place.now (I.intervals i.old) state
         → FitsArea place.now state changes.now → OnOk result (HasRoomFor place.now state inserts.now) }
     ensures full { I.told i.old → (state : AreaState) → HasState place.now (I.intervals i.old) state
@@ -123,6 +127,10 @@ pub(crate) fn changed_intervals<T: Site>(
         → FitsArea place.now state changes.now
         → IfOk result (λ changed. IsChangedTo place.now area.count bytes
         (committed place.now changes.now inserts.now state) (get nat_cmp changed)) }
+    ensures one { T.told site.old → (bytes : ℕ → List ℕ) → Shows area (T.disk site.old).contents pool.old bytes
+        → (state : AreaState) → HasState place.now (listed area.count bytes) state
+        → FitsArea place.now state changes.now → ChangesOneSegment place.now state changes.now inserts.now
+        → IfOk result (λ changed. OneChanged area.count bytes (get nat_cmp changed)) }
     ensures within { IfOk result (λ changed. AreWithin area (get nat_cmp changed)) }
     ensures room { T.told site.old → (bytes : ℕ → List ℕ) → Shows area (T.disk site.old).contents pool.old bytes
         → (state : AreaState) → HasState place.now (listed area.count bytes) state
@@ -138,8 +146,9 @@ pub(crate) fn changed_intervals<T: Site>(
         → (s ≡ area.set) × ((ci : ℕ) × IsBegin place.now ci at) }
     ensures here { (s begin end n : ℕ) → result ≡ Err (fault.SeqFull s begin end n) → s ≡ area.set }
     ensures failed { IsErrOf result fault.Device → Rose (T.faults site.old) (T.faults site.new) }
-    ensures unread { AllPending pool.old area.set area.count → ReadsNothing (T.tells_reads site.old)
+    ensures unread { AllAtHand pool.old area.set area.count → ReadsNothing (T.tells_reads site.old)
         (T.tells_reads site.new) (T.bytes_read site.old) (T.bytes_read site.new) }
+    ensures hand { AllAtHand pool.old area.set area.count → SameAtHand pool.old pool.new }
     ensures looks { LooksAt T.told T.disk T.faults T.holds T.keeps area.set area.size site.old site.new pool.old
         pool.new }
 {

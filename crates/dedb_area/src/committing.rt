@@ -1,11 +1,14 @@
 //! Changed anchors and sequential inserts of a commit are staged: in each area, one after another, the intervals that they
 //! change, each with its item.
 
-ghost use Rattle.std.specs.Prelude.{◌≡◌, ◌≢◌, ◌+◌, ◌-◌, ◌*◌, ◌<◌, ◌≤◌, ◌^◌, ℕ, List as ListOf, Err, None, Ok, Some, IfOk, IsErrOf, IsSome, OnErr, OnOk, length, true, false};
+ghost use Rattle.std.specs.Prelude.{◌≡◌, ◌≢◌, ◌+◌, ◌-◌, ◌*◌, ◌<◌, ◌≤◌, ◌^◌, ◌∷◌, [], ℕ, List as ListOf, Err, None, Ok, Some, IfOk, IsErrOf, IsSome, OnErr, OnOk, length, true, false};
 ghost use Rattle.std.specs.List.{AllByRecursion};
 ghost use Rattle.fp_model.specs.Commit.{FillsPart, first_full, with_anchors, with_inserts};
 ghost use Rattle.fp_model.specs.ItemTargets.{is_ascending};
-ghost use Rattle.fp_model.specs.State.{areas_of, first_area_set};
+ghost use Rattle.fp_model.specs.Items.{IsFit};
+ghost use Rattle.fp_model.specs.State.{areas_of, first_area_set, roots_at};
+ghost use Rattle.fp_model.specs.declared.calls.AnchorChange.{AnchorChange as ChangeOf};
+ghost use Rattle.root_changes.specs.Differing.{RootsDiffer};
 ghost use Rattle.fp_model.specs.declared.database.Db.{Db};
 ghost use Rattle.fp_model.specs.declared.definitions.Defs.{Defs as DefsOf};
 ghost use Rattle.fp_site.specs.Site.{ReadsNothing};
@@ -20,10 +23,11 @@ ghost use Rattle.area_states.specs.States.{AreaState, HasState};
 ghost use Rattle.area_staging.specs.Changing.{AllBefore, AreStagedBy, IsFitFor, Stages, StagesItems};
 ghost use Rattle.area_staging.specs.Flags.{AreFlagged};
 ghost use Rattle.area_staging.specs.Items.{HasFlag, is_imaged};
-ghost use Rattle.area_staging.specs.Staging.{AllPending};
+ghost use Rattle.area_staging.specs.Staging.{AllAtHand};
+ghost use Rattle.ci_pool.specs.Held.{SameAtHand};
 ghost use Rattle.dedb_area.specs.Anchors.{AreInTime, CountsIntervals, IsBegin, ShowsArea, ShowsAreas, intervals_of};
 ghost use Rattle.dedb_area.specs.Appending.{MayEnter, StagesInAreas};
-ghost use Rattle.dedb_area.specs.Committing.{AreStagedUpTo, ConcernedArePending, FitAreas, FitsArea, FitsCommit, HasRoomFor, IsBeginIn, IsFirstFull, IsFitItem, MakesArea, MayStage, OnlyChanges, StagesAll, committed, has_change, has_insert, is_concerned};
+ghost use Rattle.dedb_area.specs.Committing.{AreStagedUpTo, ChangesOneSegment, ConcernedAreAtHand, FitAreas, FitsArea, FitsCommit, HasRoomFor, IsBeginIn, IsFirstFull, IsFitItem, MakesArea, MayStage, OneSegmentChanges, OnlyChanges, StagesAll, committed, has_change, has_insert, is_concerned};
 ghost use Rattle.dedb_area.specs.Standing.{AreasStand, IsUnstaged};
 ghost use Rattle.dedb_area.specs.declared.fault.AreaFault.TheVariants as fault;
 
@@ -113,6 +117,11 @@ fn stage_area<T: Site>(
         → ShowsArea place.now set (T.disk site.old).contents pool.old bytes
         → (state : AreaState) → HasState place.now (intervals_of place.now bytes) state
         → FitsArea place.now state changes.now → OnOk result (HasRoomFor place.now state inserts.now) }
+    ensures one { T.told site.old → (bytes : ℕ → ListOf ℕ)
+        → ShowsArea place.now set (T.disk site.old).contents pool.old bytes
+        → (state : AreaState) → HasState place.now (intervals_of place.now bytes) state
+        → FitsArea place.now state changes.now → ChangesOneSegment place.now state changes.now inserts.now
+        → is_concerned place.now changes.now inserts.now ≡ true → IfOk result (λ items. length items ≡ 1) }
     ensures fit { IfOk result (AllByRecursion (IsFitFor set place.now.shape.ci)) }
     ensures in_order { IfOk result (λ items. is_ascending items ≡ true) }
     ensures flagged { IfOk result (AreFlagged imaged.new.items) }
@@ -134,9 +143,12 @@ fn stage_area<T: Site>(
     ensures failed { IsErrOf result fault.Device → Rose (T.faults site.old) (T.faults site.new) }
     ensures unread { T.told site.old → (bytes : ℕ → ListOf ℕ)
         → ShowsArea place.now set (T.disk site.old).contents pool.old bytes
-        → AllPending pool.old set (counted_by (Some place.now) (bytes 0))
+        → AllAtHand pool.old set (counted_by (Some place.now) (bytes 0))
         → ReadsNothing (T.tells_reads site.old) (T.tells_reads site.new) (T.bytes_read site.old)
         (T.bytes_read site.new) }
+    ensures hand { T.told site.old → (bytes : ℕ → ListOf ℕ)
+        → ShowsArea place.now set (T.disk site.old).contents pool.old bytes
+        → AllAtHand pool.old set (counted_by (Some place.now) (bytes 0)) → SameAtHand pool.old pool.new }
     ensures stages { Stages T.told T.disk T.faults T.holds T.keeps set place.now.shape.ci site.old site.new pool.old
         pool.new }
 {
@@ -180,6 +192,12 @@ fn stage_here<T: Site>(
         → ShowsArea place.now set (T.disk site.old).contents pool.old bytes
         → (state : AreaState) → HasState place.now (intervals_of place.now bytes) state
         → FitsArea place.now state changes.now → OnOk result (HasRoomFor place.now state inserts.now) }
+    ensures one { T.told site.old → (bytes : ℕ → ListOf ℕ)
+        → ShowsArea place.now set (T.disk site.old).contents pool.old bytes
+        → (state : AreaState) → HasState place.now (intervals_of place.now bytes) state
+        → FitsArea place.now state changes.now → ChangesOneSegment place.now state changes.now inserts.now
+        → is_concerned place.now changes.now inserts.now ≡ true → IfOk result (λ items. length items ≡ 1) }
+    ensures none { is_concerned place.now changes.now inserts.now ≡ false → IfOk result (λ items. items ≡ []) }
     ensures fit { IfOk result (AllByRecursion (IsFitFor set place.now.shape.ci)) }
     ensures in_order { IfOk result (λ items. is_ascending items ≡ true) }
     ensures flagged { IfOk result (AreFlagged imaged.new.items) }
@@ -202,9 +220,13 @@ fn stage_here<T: Site>(
     ensures unread { T.told site.old → (bytes : ℕ → ListOf ℕ)
         → ShowsArea place.now set (T.disk site.old).contents pool.old bytes
         → (is_concerned place.now changes.now inserts.now ≡ true
-        → AllPending pool.old set (counted_by (Some place.now) (bytes 0)))
+        → AllAtHand pool.old set (counted_by (Some place.now) (bytes 0)))
         → ReadsNothing (T.tells_reads site.old) (T.tells_reads site.new) (T.bytes_read site.old)
         (T.bytes_read site.new) }
+    ensures hand { T.told site.old → (bytes : ℕ → ListOf ℕ)
+        → ShowsArea place.now set (T.disk site.old).contents pool.old bytes
+        → (is_concerned place.now changes.now inserts.now ≡ true
+        → AllAtHand pool.old set (counted_by (Some place.now) (bytes 0))) → SameAtHand pool.old pool.new }
     ensures stages { Stages T.told T.disk T.faults T.holds T.keeps set place.now.shape.ci site.old site.new pool.old
         pool.new }
 {
@@ -234,6 +256,10 @@ fn stage_all<T: Site>(
         → IsUnstaged pool.old → FitAreas places.now db changes.now
         → IfOk result (λ items. AreStagedUpTo places.now (length places.now) (is_imaged imaged.old.items) newest
         changes.now inserts.now db items pool.new) }
+    ensures one { T.told site.old → (newest : AreaBytes) (db : Db)
+        → ShowsAreas places.now (T.disk site.old).contents pool.old newest → AreFor places.now newest db
+        → FitAreas places.now db changes.now → OneSegmentChanges places.now db changes.now inserts.now
+        → IfOk result (λ items. length items ≡ 1) }
     ensures fit { IfOk result (AllByRecursion (IsFitItem places.now)) }
     ensures in_order { IfOk result (λ items. is_ascending items ≡ true) }
     ensures flagged { IfOk result (AreFlagged imaged.new.items) }
@@ -252,9 +278,12 @@ fn stage_all<T: Site>(
     ensures failed { IsErrOf result fault.Device → Rose (T.faults site.old) (T.faults site.new) }
     ensures unread { T.told site.old → (newest : AreaBytes)
         → ShowsAreas places.now (T.disk site.old).contents pool.old newest
-        → ConcernedArePending places.now pool.old newest changes.now inserts.now
+        → ConcernedAreAtHand places.now pool.old newest changes.now inserts.now
         → ReadsNothing (T.tells_reads site.old) (T.tells_reads site.new) (T.bytes_read site.old)
         (T.bytes_read site.new) }
+    ensures hand { T.told site.old → (newest : AreaBytes)
+        → ShowsAreas places.now (T.disk site.old).contents pool.old newest
+        → ConcernedAreAtHand places.now pool.old newest changes.now inserts.now → SameAtHand pool.old pool.new }
     ensures stages { StagesAll T.told T.disk T.faults T.holds T.keeps places.now site.old site.new pool.old pool.new }
 {
     let mut items = List::new(alloc);
@@ -306,8 +335,17 @@ impl Areas {
             → AreFor self.old.places (behind way.unsealed bytes) db → FitsCommit defs db changes.now inserts.now
             → IfOk result (OnlyChanges self.old.places (behind way.unsealed bytes)) }
         ensures fit { IfOk result (AllByRecursion (IsFitItem self.old.places)) }
+        ensures defined { (defs : DefsOf) → self.old.places ≡ places_of defs
+            → IfOk result (AllByRecursion (IsFit defs)) }
         ensures in_order { IfOk result (λ items. is_ascending items ≡ true) }
         ensures flagged { IfOk result (AreFlagged self.new.imaged) }
+
+        // Where one segment changes alone, of one anchor, there is one item in all.
+        ensures one { T.told site.old → (way : Way) (bytes : AreaBytes) (defs : DefsOf) (db : Db) (c : ChangeOf)
+            → AreasStand way bytes (T.disk site.old) self.old → self.old.places ≡ places_of defs
+            → AreFor self.old.places (behind way.unsealed bytes) db → FitsCommit defs db changes.now inserts.now
+            → changes.now ≡ c ∷ [] → inserts.now ≡ [] → RootsDiffer (roots_at db c.dedb c.anchor) c.roots
+            → IfOk result (λ items. length items ≡ 1) }
 
         // It is full exactly where the databases say so.
         ensures full { T.told site.old → (way : Way) (bytes : AreaBytes) (defs : DefsOf) (db : Db)
@@ -329,12 +367,17 @@ impl Areas {
         ensures begins { (s at : ℕ) → result ≡ Err (fault.Damaged s at) → IsBeginIn self.old.places s at }
         ensures failed { IsErrOf result fault.Device → Rose (T.faults site.old) (T.faults site.new) }
 
-        // Where each interval of the areas concerned is pending, no byte of the site is read.
+        // Where each interval of the areas concerned is pending or clean, no byte of the site is read, and all that is at
+        // hand stays.
         ensures unread { T.told site.old → (way : Way) (bytes : AreaBytes)
             → AreasStand way bytes (T.disk site.old) self.old
-            → ConcernedArePending self.old.places self.old.pool (behind way.unsealed bytes) changes.now inserts.now
+            → ConcernedAreAtHand self.old.places self.old.pool (behind way.unsealed bytes) changes.now inserts.now
             → ReadsNothing (T.tells_reads site.old) (T.tells_reads site.new) (T.bytes_read site.old)
             (T.bytes_read site.new) }
+        ensures hand { T.told site.old → (way : Way) (bytes : AreaBytes)
+            → AreasStand way bytes (T.disk site.old) self.old
+            → ConcernedAreAtHand self.old.places self.old.pool (behind way.unsealed bytes) changes.now inserts.now
+            → SameAtHand self.old.pool self.new.pool }
 
         // After a refusal nothing is staged, and the areas stand as before.
         ensures unstaged { OnErr result (IsUnstaged self.new.pool) }

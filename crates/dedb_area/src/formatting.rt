@@ -5,11 +5,15 @@ ghost use Rattle.ci_space.specs.Calls.{Rose};
 ghost use Rattle.ci_space.specs.Interval.{is_size, is_kind, kind_of, empty_bytes};
 ghost use Rattle.ci_space.specs.Head.{ends_of};
 ghost use Rattle.ci_overflow.specs.Places.{first_independent, kind_at};
-ghost use Rattle.fp_model.specs.State.{first_area_set};
+ghost use Rattle.fp_model.specs.State.{first_area_set, start};
 ghost use Rattle.fp_model.specs.WellFormed.{AreDefs};
 ghost use Rattle.fp_site.specs.Disk.{IsDurable, Leaves};
 ghost use Rattle.fp_site.specs.Site.{ReadsNothing};
 ghost use Rattle.dedb_area.specs.Formatting.{IsStarted, IsFormatted};
+ghost use Rattle.dedb_area.specs.Opening.{AreFormatted, AreOpened, bytes_in, no_entries};
+ghost use Rattle.dedb_area.specs.Standing.{AreasStand, Holding};
+ghost use Rattle.area_states.specs.Databases.{AreFor};
+ghost use Rattle.fp_model.specs.declared.definitions.Defs.{Defs as DefsOf};
 ghost use Rattle.area_states.specs.Places.{places_of, place_at, IsPlace, ArePlaces};
 ghost use Rattle.dedb_area.specs.declared.fault.AreaFault.TheVariants as fault;
 ghost use Rattle.area_states.specs.declared.place.Place.{Place as PlaceOf};
@@ -207,3 +211,16 @@ impl Areas {
         format_all(alloc, site, &places)
     }
 }
+
+/// What `format` leaves is where a run begins. The bytes of formatted areas stand for the databases before any
+/// transaction; so each area is formed. And the areas as they are opened, with an empty pool, stand behind no entry.
+pub fn formatted_areas_stand<S: Site>(site: &S)
+    ensures databases { (defs : DefsOf)
+        → AreDefs defs
+        → AreFormatted (places_of defs) (S.disk site.now)
+        → AreFor (places_of defs) (bytes_in (places_of defs) (S.disk site.now).contents) (start defs) }
+    ensures stands { (defs : DefsOf) (areas : Holding) (count : ℕ)
+        → AreFormatted (places_of defs) (S.disk site.now)
+        → AreOpened (places_of defs) areas
+        → AreasStand (no_entries count) (bytes_in (places_of defs) (S.disk site.now).contents) (S.disk site.now) areas }
+{}

@@ -16,11 +16,12 @@ mod purging;
 mod reading;
 mod syncing;
 
-pub use applying::ApplyFault;
+pub use applying::{ApplyFault, items_that_fit_may_be_applied};
 pub use area_staging::Staging;
 pub use area_states::Place;
 pub use areas::Areas;
 pub use fault::AreaFault;
+pub use formatting::formatted_areas_stand;
 pub use marking::a_mark_keeps_the_areas;
 pub use publishing::{a_publish_keeps_the_areas, dropped_areas_stand};
 pub use purging::a_purged_area_has_the_purged_state;

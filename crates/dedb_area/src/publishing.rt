@@ -1,8 +1,8 @@
 //! What is staged of areas becomes pending, or is dropped.
 
-ghost use Rattle.std.specs.Prelude.{◌≡◌, ◌-◌, ◌<◌, ◌^◌, ℕ, List};
+ghost use Rattle.std.specs.Prelude.{◌≡◌, ◌-◌, ◌<◌, ◌^◌, ℕ, IsSome, List};
 ghost use Rattle.fp_model.specs.declared.log.Entry.{Entry};
-ghost use Rattle.ci_pool.specs.Held.{pending_at, IsClean};
+ghost use Rattle.ci_pool.specs.Held.{held_at, pending_at, IsClean};
 ghost use Rattle.area_redo.specs.Redo.{AreaBytes, GrowByImages};
 ghost use Rattle.area_redo.specs.Standing.{Way, BeginsSinceMark, behind};
 ghost use Rattle.area_redo.specs.Steps.{longer, next_place};
@@ -30,7 +30,8 @@ impl Areas {
         ensures imaged { AreNoted items.now self.old.imaged self.new.imaged }
         ensures unstaged { IsUnstaged self.new.pool }
 
-        // What stays.
+        // What stays. What is at hand stays so: pending, or clean.
+        ensures hand { (set ci : ℕ) → IsSome (held_at self.old.pool set ci) → IsSome (held_at self.new.pool set ci) }
         ensures clean { (contents : ℕ → List ℕ) → IsClean contents self.old.pool → IsClean contents self.new.pool }
         ensures fit { place < 2 ^ 64 - 1 → IsFitStaged self.old.places self.old.pool
             → IsFitPool self.new.places self.new.pool }

@@ -8,9 +8,13 @@ ghost use Rattle.ci_space.specs.Interval.{is_size};
 ghost use Rattle.held_intervals.specs.Holding.{held_or};
 ghost use Rattle.seq_dependents.specs.Control.{IsControl};
 ghost use Rattle.area_states.specs.Changes.{purged};
-ghost use Rattle.area_redo.specs.Redo.{AreaBytes};
+ghost use Rattle.area_redo.specs.Redo.{AreaBytes, redone};
+ghost use Rattle.area_states.specs.Databases.{AreFor};
+ghost use Rattle.fp_model.specs.Commit.{purged as purged_databases};
+ghost use Rattle.fp_model.specs.Shape.{IsDbOf};
+ghost use Rattle.fp_model.specs.declared.database.Db.{Db};
 ghost use Rattle.area_redo.specs.Standing.{Way, behind};
-ghost use Rattle.area_states.specs.Places.{IsPlace, counted_by, place_at};
+ghost use Rattle.area_states.specs.Places.{IsPlace, counted_by, place_at, places_of};
 ghost use Rattle.area_states.specs.States.{AreaState, HasState};
 ghost use Rattle.area_states.specs.declared.place.Place.{Place as PlaceOf};
 ghost use Rattle.dedb_area.specs.Anchors.{ShowsArea, intervals_of};
@@ -21,7 +25,11 @@ ghost use Rattle.area_staging.specs.Looking.{LooksAt};
 ghost use Rattle.area_staging.specs.Items.{items_in};
 ghost use Rattle.dedb_area.specs.Purging.{IsControlStaged, IsPurgeStaged, IsPurged, MayPurge, with_control};
 ghost use Rattle.area_staging.specs.Flags.{AreFlagged};
-ghost use Rattle.area_staging.specs.Changing.{AreStagedBy};
+ghost use Rattle.area_staging.specs.Changing.{AreStagedBy, IsFitFor};
+ghost use Rattle.dedb_area.specs.Committing.{IsFitItem};
+ghost use Rattle.fp_model.specs.Items.{IsFit};
+ghost use Rattle.fp_model.specs.declared.definitions.Defs.{Defs as DefsOf};
+ghost use Rattle.std.specs.List.{AllByRecursion};
 ghost use Rattle.dedb_area.specs.Appending.{MayEnter, StagesInAreas};
 ghost use Rattle.dedb_area.specs.Standing.{AreasStand, IsUnstaged};
 ghost use Rattle.dedb_area.specs.declared.fault.AreaFault.{AreaFault as FaultOf};
@@ -160,6 +168,7 @@ fn stage_control(
     ensures item { IfOk result (IsChange (is_imaged imaged.old.items set 0) set 0 old.now new.now) }
     ensures staged { IfOk result (IsControlStaged set new.now imaged.new.items pool.old pool.new) }
     ensures err { OnErr result (pool.new ≡ pool.old) }
+    ensures fit { IfOk result (λ item. AllByRecursion (IsFitFor set (length new.now)) (items_in item)) }
     ensures memory { (why : FaultOf) → result ≡ Err why → why ≡ fault.Memory }
     ensures pending { (s k : ℕ) → pending_at pool.new s k ≡ pending_at pool.old s k }
     ensures list { pool.new.clean ≡ pool.old.clean }
@@ -195,6 +204,9 @@ impl Areas {
             → AreasStand way bytes (T.disk site.old) self.old
             → IfOk result (IsPurgeStaged n set (is_imaged self.old.imaged set 0) (behind way.unsealed bytes set 0)
             self.new.pool) }
+        ensures fit { IfOk result (λ item. AllByRecursion (IsFitItem self.old.places) (items_in item)) }
+        ensures defined { (defs : DefsOf) → self.old.places ≡ places_of defs
+            → IfOk result (λ item. AllByRecursion (IsFit defs) (items_in item)) }
         ensures flagged { IfOk result (λ item. AreFlagged self.new.imaged (items_in item)) }
         ensures staged { T.told site.old → (way : Way) (bytes : AreaBytes)
             → AreasStand way bytes (T.disk site.old) self.old
@@ -202,6 +214,14 @@ impl Areas {
         ensures enters { T.told site.old → (way : Way) (bytes : AreaBytes)
             → AreasStand way bytes (T.disk site.old) self.old
             → IfOk result (λ item. MayEnter way bytes self.old (items_in item)) }
+
+        // The item makes of the newest bytes those of the databases behind the Purge.
+        ensures databases { T.told site.old → (way : Way) (bytes : AreaBytes) (defs : DefsOf) (db behind_it : Db)
+            → AreasStand way bytes (T.disk site.old) self.old → self.old.places ≡ places_of defs
+            → AreFor self.old.places (behind way.unsealed bytes) db → IsDbOf defs db
+            → purged_databases defs set n db ≡ Some behind_it
+            → IfOk result (λ item. AreFor self.old.places (redone (items_in item) (behind way.unsealed bytes))
+            behind_it) }
 
         // When it refuses.
         ensures damaged { T.told site.old → (way : Way) (bytes : AreaBytes) (place : PlaceOf) (s at : ℕ)

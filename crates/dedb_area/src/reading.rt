@@ -4,8 +4,7 @@ ghost use Rattle.std.specs.Prelude.{◌≡◌, ◌≢◌, ◌-◌, ◌<◌, ◌�
 ghost use Rattle.ci_space.specs.Calls.{Rose};
 ghost use Rattle.ci_space.specs.Interval.{is_size, kind_of, IsInterval};
 ghost use Rattle.ci_space.specs.Head.{ends_of};
-ghost use Rattle.ci_pool.specs.Held.{IsClean, HasSize, newest_in, pending_at};
-ghost use Rattle.ci_pool.specs.declared.cell.Waiting.{Waiting as Pending};
+ghost use Rattle.ci_pool.specs.Held.{IsClean, HasSize, SameAtHand, held_at, newest_in};
 ghost use Rattle.dedb_area.specs.Control.{IsControl, AreEnds, IsControlOf};
 ghost use Rattle.area_staging.specs.Looking.{LooksAt};
 ghost use Rattle.area_states.specs.Places.{place_at};
@@ -54,7 +53,8 @@ pub(crate) fn control<T: Site>(
     ensures first { (s at : ℕ) → result ≡ Err (fault.Damaged s at) → (s ≡ set) × (at ≡ 0) }
     ensures failed { IsErrOf result fault.Device → Rose (T.faults site.old) (T.faults site.new) }
     ensures never_full { (s begin end n : ℕ) → result ≢ Err (fault.SeqFull s begin end n) }
-    ensures unread { (w : Pending) → pending_at pool.old set 0 ≡ Some w → site.new ≡ site.old }
+    ensures unread { (bytes : List ℕ) → held_at pool.old set 0 ≡ Some bytes → site.new ≡ site.old }
+    ensures hand { (bytes : List ℕ) → held_at pool.old set 0 ≡ Some bytes → SameAtHand pool.old pool.new }
     ensures looks { LooksAt T.told T.disk T.faults T.holds T.keeps set place.now.shape.ci site.old site.new pool.old
         pool.new }
 {

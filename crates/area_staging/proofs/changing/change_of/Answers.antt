@@ -1,6 +1,7 @@
-use Rattle.std.proofs.Common.{◌≡◌, ◌∙◌, ◌<◌, ℕ, length, ap, arith}
+use Rattle.std.proofs.Common.{◌≡◌, ◌∙◌, ◌<◌, length, ap, arith}
 use Rattle.std.proofs.lemmas.Bool.Decides.{nat_tests}
-use Rattle.area_staging.proofs.Data.{sized_newest}
+use Rattle.ci_pool.specs.Held.{held_at}
+use Rattle.area_staging.proofs.Data.{sized_newest, there}
 use Rattle.area_staging.proofs.Steps.{fit_change}
 use Rattle.area_staging.proofs.changing.change_of.Goals as goal
 
@@ -21,3 +22,27 @@ returns-clause-fits g c = λ end.
     let whole : c.whole-3.result.now ≡ c.args.interval.now = c.whole-3.ensures.bytes in
     fit_change c.args.imaged area c.args.ci c.as_slice.result.now c.whole-3.result.now c.in_ok-item_of.field-0
     (ap length whole ∙ c.requires.size) end c.in_ok-item_of.ensures
+
+pub returns-in_err-image_of-2-clause-hand : goal.returns-in_err-image_of-2-clause-hand
+returns-in_err-image_of-2-clause-hand g c = λ all.
+    let below : c.args.ci < c.args.area.count = grind (arith, nat_tests, c.if-ci-area.false) in
+    let w = there (held_at c.args.pool.now c.args.area.set c.args.ci) (all below) in
+    c.old_bytes.ensures.hand w.0 w.1
+
+pub returns-then-len-whole-clause-hand : goal.returns-then-len-whole-clause-hand
+returns-then-len-whole-clause-hand g c = λ all.
+    let below : c.args.ci < c.args.area.count = grind (arith, nat_tests, c.if-ci-area.false) in
+    let w = there (held_at c.args.pool.now c.args.area.set c.args.ci) (all below) in
+    c.old_bytes.ensures.hand w.0 w.1
+
+pub returns-in_err-item_of-clause-hand : goal.returns-in_err-item_of-clause-hand
+returns-in_err-item_of-clause-hand g c = λ all.
+    let below : c.args.ci < c.args.area.count = grind (arith, nat_tests, c.if-ci-area.false) in
+    let w = there (held_at c.args.pool.now c.args.area.set c.args.ci) (all below) in
+    c.old_bytes.ensures.hand w.0 w.1
+
+pub returns-clause-hand : goal.returns-clause-hand
+returns-clause-hand g c = λ all.
+    let below : c.args.ci < c.args.area.count = grind (arith, nat_tests, c.if-ci-area.false) in
+    let w = there (held_at c.args.pool.now c.args.area.set c.args.ci) (all below) in
+    c.old_bytes.ensures.hand w.0 w.1

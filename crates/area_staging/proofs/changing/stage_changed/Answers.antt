@@ -1,13 +1,13 @@
-use Rattle.std.proofs.Common.{rules, inl, inr, ℕ, ◌<◌, ◌≤◌, List, length, refl, sym, ◌∙◌, ◌≡◌, ap, subst, arith}
-use Rattle.std.specs.Prelude.{IsSome, None, Some}
+use Rattle.std.proofs.Common.{rules, ℕ, ◌<◌, List, length, sym, ◌∙◌, ◌≡◌, ap, subst, arith}
+use Rattle.std.specs.Prelude.{None, Some}
 use Rattle.std.specs.Ordering.{nat_cmp}
 use Rattle.std.specs.BTreeMap.{get}
-use Rattle.std.proofs.lemmas.Bool.{cases_eq}
 use Rattle.std.proofs.lemmas.Bool.Decides.{nat_tests}
 use Rattle.area_staging.specs.Changing.{MakeChanges}
-use Rattle.area_staging.specs.Items.{HasFlag, is_imaged, items_in}
+use Rattle.area_staging.specs.Items.{is_imaged}
 use Rattle.area_staging.proofs.Data.{sized_newest}
-use Rattle.area_staging.proofs.Stages.{stages_then, still_all, still_shows}
+use Rattle.area_staging.proofs.Stages.{stages_then, still_shows}
+use Rattle.area_staging.proofs.AtHand.{hand_then, still_at_hand}
 use Rattle.area_staging.proofs.Steps.{at_last, before_more, fit_more, flags_more, item_as, no_entries, order_more, some_bytes, taken, taken_staged}
 use Rattle.area_staging.proofs.changing.stage_changed.Goals as goal
 
@@ -85,10 +85,12 @@ loop-ci-preserved g c =
       flags = λ s k. c.stage_one.ensures.flags s k ∙ inv.flags s k;
       kept = λ s k h. c.stage_one.ensures.kept s k (inv.kept s k h);
       count = c.stage_one.ensures.count ∙ inv.count;
-      unread = λ pending. c.stage_one.ensures.unread (λ lt.
-          still_all g.T.Site.told g.T.Site.disk g.T.Site.faults g.T.Site.holds g.T.Site.keeps area.set area.size
-          area.count c.args.site.now c.loop-ci.site c.args.pool.now c.loop-ci.pool inv.stages pending ci lt)
-          ∙ inv.unread pending;
+      unread = λ all. c.stage_one.ensures.unread (still_at_hand area.set area.count c.args.pool.now c.loop-ci.pool all
+          (inv.hand all) ci)
+          ∙ inv.unread all;
+      hand = λ all s k. c.stage_one.ensures.hand (still_at_hand area.set area.count c.args.pool.now c.loop-ci.pool all
+          (inv.hand all) ci) s k
+          ∙ inv.hand all s k;
       made = λ t b shown.
           taken (is_imaged c.args.imaged.now.items area.set) area b ci bytes all left left2 was is gone others
           c.loop-ci.items c.add.new.items c.in_ok-item.item (inv.made t b shown)
@@ -116,3 +118,27 @@ returns-clause-made g c = λ told bytes shown.
     λ k. no_entries _ c.loop-ci.left.entries (λ some. c.in_default.ensures.variant.1 some) in
     subst (λ d. MakeChanges c.args.area.set c.args.area.count (is_imaged c.args.imaged.now.items c.args.area.set) bytes d
     c.loop-ci.items) (at_last all left none) (c.loop-ci.invariant.made told bytes shown)
+
+pub returns-in_err-item-clause-hand : goal.returns-in_err-item-clause-hand
+returns-in_err-item-clause-hand g c = λ all.
+    hand_then c.args.pool.now c.loop-ci.pool c.stage_one.new.pool (c.loop-ci.invariant.hand all)
+    (c.stage_one.ensures.hand (still_at_hand c.args.area.set c.args.area.count c.args.pool.now c.loop-ci.pool all
+    (c.loop-ci.invariant.hand all) c.in-Some.ci))
+
+pub returns-in_err-item-clause-unread : goal.returns-in_err-item-clause-unread
+returns-in_err-item-clause-unread g c = λ all.
+    c.stage_one.ensures.unread (still_at_hand c.args.area.set c.args.area.count c.args.pool.now c.loop-ci.pool all
+    (c.loop-ci.invariant.hand all) c.in-Some.ci)
+    ∙ c.loop-ci.invariant.unread all
+
+pub returns-in_err-add-clause-hand : goal.returns-in_err-add-clause-hand
+returns-in_err-add-clause-hand g c = λ all.
+    hand_then c.args.pool.now c.loop-ci.pool c.stage_one.new.pool (c.loop-ci.invariant.hand all)
+    (c.stage_one.ensures.hand (still_at_hand c.args.area.set c.args.area.count c.args.pool.now c.loop-ci.pool all
+    (c.loop-ci.invariant.hand all) c.in-Some.ci))
+
+pub returns-in_err-add-clause-unread : goal.returns-in_err-add-clause-unread
+returns-in_err-add-clause-unread g c = λ all.
+    c.stage_one.ensures.unread (still_at_hand c.args.area.set c.args.area.count c.args.pool.now c.loop-ci.pool all
+    (c.loop-ci.invariant.hand all) c.in-Some.ci)
+    ∙ c.loop-ci.invariant.unread all

@@ -7,7 +7,8 @@ use Rattle.fp_model.specs.ItemTargets.{is_ascending}
 use Rattle.area_staging.specs.Changing.{AllBefore, IsFitFor, MakeChanges, Shows, Stages, StagesItems}
 use Rattle.area_staging.specs.Flags.{AreFlagged}
 use Rattle.area_staging.specs.Items.{HasFlag, is_imaged}
-use Rattle.area_staging.specs.Staging.{AllPending}
+use Rattle.ci_pool.specs.Held.{SameAtHand}
+use Rattle.area_staging.specs.Staging.{AllAtHand}
 use Rattle.area_staging.proofs.Steps.{done_of}
 use Rattle.area_staging.proofs.changing.stage_changed.Given as goal
 
@@ -24,7 +25,8 @@ invariant-loop-ci g l = record {
   flags : (s k : ℕ) → is_imaged l.imaged.items s k ≡ is_imaged l.initial.imaged.items s k;
   kept : (s k : ℕ) → HasFlag l.initial.imaged.items s k → HasFlag l.imaged.items s k;
   count : length l.imaged.items ≡ length l.initial.imaged.items;
-  unread : AllPending l.initial.pool l.area.set l.area.count → l.site ≡ l.initial.site;
+  unread : AllAtHand l.initial.pool l.area.set l.area.count → l.site ≡ l.initial.site;
+  hand : AllAtHand l.initial.pool l.area.set l.area.count → SameAtHand l.initial.pool l.pool;
   made : g.T.Site.told l.initial.site → (bytes : ℕ → List ℕ)
       → Shows l.area (g.T.Site.disk l.initial.site).contents l.initial.pool bytes
       → MakeChanges l.area.set l.area.count (is_imaged l.initial.imaged.items l.area.set) bytes

@@ -1,8 +1,9 @@
 use Rattle.std.proofs.Common.{◌≡◌, ◌∙◌, length, sym, ap, subst}
-use Rattle.std.specs.Prelude.{if◌then◌else◌, ◌==◌, ◌&&◌, Some}
+use Rattle.std.specs.Prelude.{Some}
 use Rattle.ci_pool.specs.Held.{Held, staged_at}
 use Rattle.area_staging.specs.Changing.{IsItemFor}
 use Rattle.area_staging.specs.Items.{is_imaged}
+use Rattle.area_staging.proofs.AtHand.{hand_of, hand_then}
 use Rattle.area_staging.proofs.Steps.{other_staged}
 use Rattle.area_staging.proofs.Stages.{stages_one}
 use Rattle.area_staging.proofs.changing.stage_one.Goals as goal
@@ -41,3 +42,13 @@ returns-clause-stages g c =
     (λ s n e. c.stage.ensures.sizes s n (λ eq. long ∙ sym (e eq)))
     (λ s k ne. other_staged c.args.area.set c.args.ci s k c.in_ok-from_slice.field-0 c.change_of.new.pool
     c.stage.new.self ne (c.in_ok-stage.ensures.staged s k))
+
+pub returns-clause-hand : goal.returns-clause-hand
+returns-clause-hand g c = λ all.
+    hand_then c.args.pool.now c.change_of.new.pool c.stage.new.self (c.change_of.ensures.hand all)
+    (hand_of c.change_of.new.pool c.stage.new.self c.stage.ensures.pending c.stage.ensures.list)
+
+pub returns-in_err-stage-clause-hand : goal.returns-in_err-stage-clause-hand
+returns-in_err-stage-clause-hand g c = λ all.
+    hand_then c.args.pool.now c.change_of.new.pool c.stage.new.self (c.change_of.ensures.hand all)
+    (hand_of c.change_of.new.pool c.stage.new.self c.stage.ensures.pending c.stage.ensures.list)

@@ -3,8 +3,9 @@ use Rattle.std.specs.List.{AllByRecursion}
 use Rattle.std.proofs.lemmas.Result.{err_from_is_err_and}
 use Rattle.ci_overflow.proofs.Going.{goes_on_joined}
 use Rattle.root_anchor.proofs.Exits.{same_fault}
-use Rattle.area_states.specs.Changes.{AllKeepLists, IsStorable, with_change, with_changes}
+use Rattle.area_states.specs.Changes.{AllKeepLists, ChangesOne, IsStorable, KeepsLists, OneChanges, with_change, with_changes}
 use Rattle.area_states.specs.States.{HasState}
+use Rattle.area_states.proofs.Alone.{none_changes, only_one}
 use Rattle.area_states.proofs.Loops.{rest_at, none_left}
 use Rattle.area_states.proofs.storing.store_all.Goals as goal
 
@@ -14,6 +15,8 @@ loop-change-init g c = record {
   number = omega arith;
   storable = c.requires.roots;
   stands = λ told state has own. (state, has, own, refl);
+  none_yet = λ told e. refl;
+  alone = λ told state has change is keeps ordered one. none_changes _;
 }
 
 pub loop-change-preserved : goal.loop-change-preserved
@@ -34,6 +37,16 @@ loop-change-preserved g c =
             keeps.1,
             was.3 ∙ ap (λ l. with_changes place l was.0) at,
           );
+      none_yet = λ told e. absurd (omega (arith, e));
+      alone = λ told state has change is keeps ordered one.
+          let first = only_one c.args.changes.now change c.loop-change.change-index c.change-item.result is
+          c.loop-change-test.true c.change-item.is in
+          let same = inv.none_yet told first.0 in
+          let has2 = subst (λ area. HasState place area state) (sym same) has in
+          subst (λ area. OneChanges area (g.I.Intervals.intervals c.store_one.new.i)) same
+          (c.in_ok-store_one.ensures.alone (inv.goes_on.tells told) state has2
+          (subst (KeepsLists place state) (sym first.1) keeps) ordered
+          (subst (ChangesOne place state) (sym first.1) one));
     }
 
 pub store_one-requires-clause-roots : goal.store_one-requires-clause-roots

@@ -1,7 +1,8 @@
-use Rattle.std.proofs.Common.{◌≡◌, ◌≤◌, drop}
+use Rattle.std.proofs.Common.{◌≡◌, ◌≤◌, ◌∷◌, [], drop}
 use Rattle.std.specs.List.{AllByRecursion}
 use Rattle.ci_space.specs.Calls.{GoesOn}
-use Rattle.area_states.specs.Changes.{AllKeepLists, IsStorable, with_changes}
+use Rattle.fp_model.specs.declared.calls.AnchorChange.{AnchorChange}
+use Rattle.area_states.specs.Changes.{AllKeepLists, AreOrdered, ChangesOne, IsStorable, KeepsLists, OneChanges, with_changes}
 use Rattle.area_states.specs.States.{AreaState, HasState}
 use Rattle.area_states.proofs.storing.store_all.Given as goal
 
@@ -16,4 +17,10 @@ invariant-loop-change g l = record {
       → (mid : AreaState) × HasState l.place (g.I.Intervals.intervals l.i) mid
       × AllKeepLists l.place mid (drop l.change-index l.changes)
       × (with_changes l.place l.changes state ≡ with_changes l.place (drop l.change-index l.changes) mid);
+  none_yet : g.I.Intervals.told l.initial.i → l.change-index ≡ 0
+      → g.I.Intervals.intervals l.i ≡ g.I.Intervals.intervals l.initial.i;
+  alone : g.I.Intervals.told l.initial.i → (state : AreaState)
+      → HasState l.place (g.I.Intervals.intervals l.initial.i) state → (c : AnchorChange) → l.changes ≡ c ∷ []
+      → KeepsLists l.place state c → AreOrdered l.place state → ChangesOne l.place state c
+      → OneChanges (g.I.Intervals.intervals l.initial.i) (g.I.Intervals.intervals l.i);
 }

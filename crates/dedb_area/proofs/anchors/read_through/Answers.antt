@@ -6,6 +6,7 @@ use Rattle.ci_space.specs.Calls.{Rose}
 use Rattle.area_reading.specs.Damage.{IsUnreadable}
 use Rattle.area_states.specs.States.{HasAnchor}
 use Rattle.std.specs.Prelude.{IfOk}
+use Rattle.ci_pool.specs.Held.{SameAtHand}
 use Rattle.area_staging.specs.Looking.{LooksAt}
 use Rattle.area_staging.specs.Staging.{kept_itself}
 use Rattle.dedb_area.proofs.AnchorLemmas.{fresh_area, fresh_told, kept_of_equals}
@@ -87,6 +88,28 @@ returns-clause-unread g c = λ all.
     g.T.Site.bytes_read q.set c.args.set q.size c.args.place.now.shape.ci q.count c.args.count n.count s
     c.args.site.now n.site.now q.pool.now c.args.pool.now n.pool.now (get nat_cmp q.staged) (get nat_cmp n.staged)
     e.set e.size e.count e.site e.pool kept.4).reads all in
+    search rules
+
+pub returns-clause-hand : goal.returns-clause-hand
+returns-clause-hand g c = λ all.
+    let q = c.new-staging.result in
+    let s = q.site.now in
+    let e = c.new-staging.ensures in
+    let n = c.read_anchor-read.new.i in
+    let kept = c.read_anchor-read.ensures.goes_on.known q (
+      refl,
+      refl,
+      refl,
+      refl,
+      kept_itself g.T.Site.told g.T.Site.disk g.T.Site.faults g.T.Site.holds g.T.Site.keeps g.T.Site.tells_reads
+          g.T.Site.bytes_read q.set q.size q.count s q.pool.now (get nat_cmp q.staged),
+    ) in
+    let pool = kept.1 ∙ e.same_pool in
+    let same : SameAtHand c.args.pool.now n.pool.now =
+    (kept_of_equals g.T.Site.told g.T.Site.disk g.T.Site.faults g.T.Site.holds g.T.Site.keeps g.T.Site.tells_reads
+    g.T.Site.bytes_read q.set c.args.set q.size c.args.place.now.shape.ci q.count c.args.count n.count s
+    c.args.site.now n.site.now q.pool.now c.args.pool.now n.pool.now (get nat_cmp q.staged) (get nat_cmp n.staged)
+    e.set e.size e.count e.site e.pool kept.4).hand all in
     search rules
 
 pub returns-clause-failed : goal.returns-clause-failed

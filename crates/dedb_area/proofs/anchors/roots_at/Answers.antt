@@ -2,10 +2,11 @@ use Rattle.std.proofs.Common.{refl, sym, subst}
 use Rattle.std.proofs.lemmas.Result.{err_from_is_err_and}
 use Rattle.root_anchor.proofs.Exits.{same_fault}
 use Rattle.area_states.specs.States.{HasAnchor}
-use Rattle.ci_pool.specs.Held.{pending_at}
+use Rattle.ci_pool.specs.Held.{held_at}
 use Rattle.dedb_area.specs.Anchors.{intervals_of, uncounted, unreadable}
-use Rattle.area_staging.specs.Staging.{AllPending}
-use Rattle.dedb_area.proofs.AnchorLemmas.{all_pending, begin_first, by_given, some_counted, still_shown}
+use Rattle.area_staging.specs.Staging.{AllAtHand}
+use Rattle.dedb_area.proofs.AnchorLemmas.{begin_first, by_given, some_counted, still_shown}
+use Rattle.area_staging.proofs.AtHand.{hand_then, still_at_hand}
 use Rattle.area_staging.proofs.Data.{there}
 use Rattle.area_staging.proofs.Looks.{looks_then}
 use Rattle.area_staging.proofs.Staged.{reads_nothing, reads_then}
@@ -27,9 +28,14 @@ returns-in_err-count-clause-here g c = λ s at e.
 
 pub returns-in_err-count-clause-unread : goal.returns-in_err-count-clause-unread
 returns-in_err-count-clause-unread g c = λ told bytes shown all.
-    let w = there (pending_at c.args.pool.now c.args.set 0) (all 0 (some_counted c.args.place.now (bytes 0))) in
+    let w = there (held_at c.args.pool.now c.args.set 0) (all 0 (some_counted c.args.place.now (bytes 0))) in
     reads_nothing g.T.Site.tells_reads g.T.Site.bytes_read c.args.site.now c.counted.new.site
     (c.counted.ensures.unread w.0 w.1)
+
+pub returns-in_err-count-clause-hand : goal.returns-in_err-count-clause-hand
+returns-in_err-count-clause-hand g c = λ told bytes shown all.
+    let w = there (held_at c.args.pool.now c.args.set 0) (all 0 (some_counted c.args.place.now (bytes 0))) in
+    c.counted.ensures.hand w.0 w.1
 
 pub returns-clause-roots : goal.returns-clause-roots
 returns-clause-roots g c = λ told bytes shown.
@@ -61,14 +67,23 @@ pub returns-clause-unread : goal.returns-clause-unread
 returns-clause-unread g c = λ told bytes shown all.
     let place = c.args.place.now in
     let looks = c.counted.ensures.looks in
-    let w = there (pending_at c.args.pool.now c.args.set 0) (all 0 (some_counted place (bytes 0))) in
-    let all1 = all_pending g.T.Site.told g.T.Site.disk g.T.Site.faults g.T.Site.holds g.T.Site.keeps c.args.set
-    c.in_ok-count.count place.shape.ci c.args.site.now c.counted.new.site c.args.pool.now c.counted.new.pool looks
-    (subst (λ n. AllPending c.args.pool.now c.args.set n) (sym (c.in_ok-count.ensures.count told bytes shown)) all) in
+    let w = there (held_at c.args.pool.now c.args.set 0) (all 0 (some_counted place (bytes 0))) in
+    let all1 = still_at_hand c.args.set c.in_ok-count.count c.args.pool.now c.counted.new.pool
+    (subst (λ n. AllAtHand c.args.pool.now c.args.set n) (sym (c.in_ok-count.ensures.count told bytes shown)) all)
+    (c.counted.ensures.hand w.0 w.1) in
     reads_then g.T.Site.tells_reads g.T.Site.bytes_read c.args.site.now c.counted.new.site c.read_through-read.new.site
     (reads_nothing g.T.Site.tells_reads g.T.Site.bytes_read c.args.site.now c.counted.new.site
     (c.counted.ensures.unread w.0 w.1))
     (c.read_through-read.ensures.unread all1)
+
+pub returns-clause-hand : goal.returns-clause-hand
+returns-clause-hand g c = λ told bytes shown all.
+    let w = there (held_at c.args.pool.now c.args.set 0) (all 0 (some_counted c.args.place.now (bytes 0))) in
+    let all1 = still_at_hand c.args.set c.in_ok-count.count c.args.pool.now c.counted.new.pool
+    (subst (λ n. AllAtHand c.args.pool.now c.args.set n) (sym (c.in_ok-count.ensures.count told bytes shown)) all)
+    (c.counted.ensures.hand w.0 w.1) in
+    hand_then c.args.pool.now c.counted.new.pool c.read_through-read.new.pool (c.counted.ensures.hand w.0 w.1)
+    (c.read_through-read.ensures.hand all1)
 
 pub returns-clause-looks : goal.returns-clause-looks
 returns-clause-looks g c =

@@ -1,23 +1,25 @@
-use Rattle.std.proofs.Common.{◌≡◌, ◌+◌, ◌<◌, ◌≤◌, ℕ, length, refl, sym, ◌∙◌, ap, subst, arith}
+use Rattle.std.proofs.Common.{◌≡◌, inl, inr, ◌+◌, ◌<◌, length, refl, sym, ◌∙◌, ap, subst, arith}
 use Rattle.std.specs.Prelude.{Some}
 use Rattle.std.proofs.lemmas.Result.{err_from_is_err_and}
 use Rattle.fp_model.specs.State.{first_area_set}
 use Rattle.root_anchor.proofs.Exits.{same_fault}
 use Rattle.area_states.specs.Databases.{state_of}
 use Rattle.area_states.specs.Places.{counted_by, place_at}
-use Rattle.area_states.specs.declared.place.Place.{Place}
 use Rattle.std.specs.List.{AllByRecursion}
 use Rattle.fp_model.specs.ItemTargets.{is_ascending}
 use Rattle.area_staging.specs.Changing.{AllBefore}
 use Rattle.area_staging.specs.Flags.{AreFlagged}
 use Rattle.area_staging.specs.Items.{is_imaged}
+use Rattle.area_staging.proofs.AtHand.{hand_then, still_at_hand}
 use Rattle.area_staging.proofs.Staged.{reads_then}
-use Rattle.dedb_area.specs.Committing.{AreStagedUpTo, IsFitItem, committed}
-use Rattle.dedb_area.proofs.AnchorLemmas.{at_number, got, state_here}
+use Rattle.std.proofs.lemmas.Bool.{cases_Bool}
+use Rattle.dedb_area.specs.Committing.{AreStagedUpTo, IsFitItem, committed, is_concerned}
+use Rattle.dedb_area.proofs.Ones.{not_yet, one_added, one_in_all, one_passed, two_concerned}
+use Rattle.dedb_area.proofs.AnchorLemmas.{at_number, got, state_here, within_areas}
 use Rattle.dedb_area.proofs.CommitLaws.{counts_in_time}
 use Rattle.dedb_area.proofs.Data.{place_there}
 use Rattle.dedb_area.proofs.StagedAreas.{before_next_area, fit_more_items, flag_more_items, makes_as, area_more, none_yet, order_more_items}
-use Rattle.dedb_area.proofs.Staying.{all_itself, all_more, all_pending_still, all_shown}
+use Rattle.dedb_area.proofs.Staying.{all_itself, all_more, all_shown}
 use Rattle.dedb_area.proofs.committing.stage_all.Goals as goal
 
 pub loop-place-init : goal.loop-place-init
@@ -40,7 +42,10 @@ loop-place-init g c =
           c.args.inserts.now db l c.args.pool.now) (sym none)
           (none_yet places (is_imaged c.args.imaged.now.items) newest c.args.changes.now c.args.inserts.now db
           c.args.pool.now unstaged);
-      unread = λ told newest shown pending set tells. (tells, refl);
+      unread = λ told newest shown all set tells. (tells, refl);
+      hand = λ told newest shown all set ci. refl;
+      one = λ told newest db shown are fits whole.
+          not_yet none (λ s next at lt. let low = (within_areas places s next at).0 in absurd (omega (arith, low, lt)));
     }
 
 -- ---- the area at hand
@@ -137,7 +142,7 @@ returns-in_err-more-clause-begins g c = λ s at e.
     }
 
 pub returns-in_err-more-clause-unread : goal.returns-in_err-more-clause-unread
-returns-in_err-more-clause-unread g c = λ told newest shown pending.
+returns-in_err-more-clause-unread g c = λ told newest shown all.
     let inv = c.loop-place.invariant in
     let places = c.args.places.now in
     let index = c.loop-place.place-index in
@@ -149,11 +154,27 @@ returns-in_err-more-clause-unread g c = λ told newest shown pending.
     let shown1 = all_shown g.T.Site.told g.T.Site.disk g.T.Site.faults g.T.Site.holds g.T.Site.keeps places
     c.args.site.now c.loop-place.site c.args.pool.now c.loop-place.pool newest inv.stages told shown in
     reads_then g.T.Site.tells_reads g.T.Site.bytes_read c.args.site.now c.loop-place.site c.stage_here.new.site
-    (inv.unread told newest shown pending)
+    (inv.unread told newest shown all)
     (c.stage_here.ensures.unread (inv.stages.tells told) (newest set) (shown1 set place is) (λ some.
-    all_pending_still g.T.Site.told g.T.Site.disk g.T.Site.faults g.T.Site.holds g.T.Site.keeps places c.args.site.now
-    c.loop-place.site c.args.pool.now c.loop-place.pool set (counted_by (Some place) (newest set 0)) inv.stages
-    (pending set place is some)))
+    still_at_hand set (counted_by (Some place) (newest set 0)) c.args.pool.now c.loop-place.pool
+    (all set place is some) (inv.hand told newest shown all)))
+
+pub returns-in_err-more-clause-hand : goal.returns-in_err-more-clause-hand
+returns-in_err-more-clause-hand g c = λ told newest shown all.
+    let inv = c.loop-place.invariant in
+    let places = c.args.places.now in
+    let index = c.loop-place.place-index in
+    let place = c.place-item.result in
+    let set = c.loop-place.set in
+    let is : place_at places set ≡ Some place =
+    ap (place_at places) inv.here
+    ∙ at_number places index place (got places index place c.loop-place-test.true c.place-item.is) in
+    let shown1 = all_shown g.T.Site.told g.T.Site.disk g.T.Site.faults g.T.Site.holds g.T.Site.keeps places
+    c.args.site.now c.loop-place.site c.args.pool.now c.loop-place.pool newest inv.stages told shown in
+    hand_then c.args.pool.now c.loop-place.pool c.stage_here.new.pool (inv.hand told newest shown all)
+    (c.stage_here.ensures.hand (inv.stages.tells told) (newest set) (shown1 set place is) (λ some.
+    still_at_hand set (counted_by (Some place) (newest set 0)) c.args.pool.now c.loop-place.pool
+    (all set place is some) (inv.hand told newest shown all)))
 
 pub returns-in_err-more-clause-stages : goal.returns-in_err-more-clause-stages
 returns-in_err-more-clause-stages g c =
@@ -170,7 +191,7 @@ returns-in_err-more-clause-stages g c =
     c.loop-place.pool c.stage_here.new.pool is inv.stages c.stage_here.ensures.stages
 
 pub returns-in_err-append-clause-unread : goal.returns-in_err-append-clause-unread
-returns-in_err-append-clause-unread g c = λ told newest shown pending.
+returns-in_err-append-clause-unread g c = λ told newest shown all.
     let inv = c.loop-place.invariant in
     let places = c.args.places.now in
     let index = c.loop-place.place-index in
@@ -182,11 +203,27 @@ returns-in_err-append-clause-unread g c = λ told newest shown pending.
     let shown1 = all_shown g.T.Site.told g.T.Site.disk g.T.Site.faults g.T.Site.holds g.T.Site.keeps places
     c.args.site.now c.loop-place.site c.args.pool.now c.loop-place.pool newest inv.stages told shown in
     reads_then g.T.Site.tells_reads g.T.Site.bytes_read c.args.site.now c.loop-place.site c.stage_here.new.site
-    (inv.unread told newest shown pending)
+    (inv.unread told newest shown all)
     (c.stage_here.ensures.unread (inv.stages.tells told) (newest set) (shown1 set place is) (λ some.
-    all_pending_still g.T.Site.told g.T.Site.disk g.T.Site.faults g.T.Site.holds g.T.Site.keeps places c.args.site.now
-    c.loop-place.site c.args.pool.now c.loop-place.pool set (counted_by (Some place) (newest set 0)) inv.stages
-    (pending set place is some)))
+    still_at_hand set (counted_by (Some place) (newest set 0)) c.args.pool.now c.loop-place.pool
+    (all set place is some) (inv.hand told newest shown all)))
+
+pub returns-in_err-append-clause-hand : goal.returns-in_err-append-clause-hand
+returns-in_err-append-clause-hand g c = λ told newest shown all.
+    let inv = c.loop-place.invariant in
+    let places = c.args.places.now in
+    let index = c.loop-place.place-index in
+    let place = c.place-item.result in
+    let set = c.loop-place.set in
+    let is : place_at places set ≡ Some place =
+    ap (place_at places) inv.here
+    ∙ at_number places index place (got places index place c.loop-place-test.true c.place-item.is) in
+    let shown1 = all_shown g.T.Site.told g.T.Site.disk g.T.Site.faults g.T.Site.holds g.T.Site.keeps places
+    c.args.site.now c.loop-place.site c.args.pool.now c.loop-place.pool newest inv.stages told shown in
+    hand_then c.args.pool.now c.loop-place.pool c.stage_here.new.pool (inv.hand told newest shown all)
+    (c.stage_here.ensures.hand (inv.stages.tells told) (newest set) (shown1 set place is) (λ some.
+    still_at_hand set (counted_by (Some place) (newest set 0)) c.args.pool.now c.loop-place.pool
+    (all set place is some) (inv.hand told newest shown all)))
 
 pub returns-in_err-append-clause-stages : goal.returns-in_err-append-clause-stages
 returns-in_err-append-clause-stages g c =
@@ -256,15 +293,36 @@ loop-place-preserved g c =
           c.in_ok-more.ensures.fit
           (c.in_ok-more.ensures.room t1 (newest set) (shown1 set place is) (state_of place db) has
           (fits set place is));
-      unread = λ told newest shown pending.
+      unread = λ told newest shown all.
           let shown1 = all_shown g.T.Site.told g.T.Site.disk g.T.Site.faults g.T.Site.holds g.T.Site.keeps places
           c.args.site.now c.loop-place.site c.args.pool.now c.loop-place.pool newest inv.stages told shown in
           reads_then g.T.Site.tells_reads g.T.Site.bytes_read c.args.site.now c.loop-place.site c.stage_here.new.site
-          (inv.unread told newest shown pending)
+          (inv.unread told newest shown all)
           (c.stage_here.ensures.unread (inv.stages.tells told) (newest set) (shown1 set place is) (λ some.
-          all_pending_still g.T.Site.told g.T.Site.disk g.T.Site.faults g.T.Site.holds g.T.Site.keeps places c.args.site.now
-          c.loop-place.site c.args.pool.now c.loop-place.pool set (counted_by (Some place) (newest set 0)) inv.stages
-          (pending set place is some)));
+          still_at_hand set (counted_by (Some place) (newest set 0)) c.args.pool.now c.loop-place.pool
+          (all set place is some) (inv.hand told newest shown all)));
+      one = λ told newest db shown are fits whole.
+          let shown1 = all_shown g.T.Site.told g.T.Site.disk g.T.Site.faults g.T.Site.holds g.T.Site.keeps places
+          c.args.site.now c.loop-place.site c.args.pool.now c.loop-place.pool newest inv.stages told shown in
+          let t1 = inv.stages.tells told in
+          let has = state_here places newest db set place are is in
+          let was = inv.one told newest db shown are fits whole in
+          elim (cases_Bool (is_concerned place c.args.changes.now c.args.inserts.now)) [
+            | inl yes_it ↦ one_added places c.args.changes.now c.args.inserts.now set place is items more
+                c.append.new.self added
+                (two_concerned places c.args.changes.now c.args.inserts.now whole.set whole.alone) yes_it
+                (c.in_ok-more.ensures.one t1 (newest set) (shown1 set place is) (state_of place db) has
+                (fits set place is) (whole.each set place is) yes_it) was
+            | inr other ↦ one_passed places c.args.changes.now c.args.inserts.now set place is items more
+                c.append.new.self added other (c.in_ok-more.ensures.none other) was
+          ];
+      hand = λ told newest shown all.
+          let shown1 = all_shown g.T.Site.told g.T.Site.disk g.T.Site.faults g.T.Site.holds g.T.Site.keeps places
+          c.args.site.now c.loop-place.site c.args.pool.now c.loop-place.pool newest inv.stages told shown in
+          hand_then c.args.pool.now c.loop-place.pool c.stage_here.new.pool (inv.hand told newest shown all)
+          (c.stage_here.ensures.hand (inv.stages.tells told) (newest set) (shown1 set place is) (λ some.
+          still_at_hand set (counted_by (Some place) (newest set 0)) c.args.pool.now c.loop-place.pool
+          (all set place is some) (inv.hand told newest shown all)));
     }
 
 -- ---- all are staged
@@ -276,3 +334,16 @@ returns-clause-staged g c = λ told newest db shown are none fits.
     (let w = inv.within in let past = c.loop-place-test.false in omega (arith, w, past)) in
     subst (λ n. AreStagedUpTo c.args.places.now n (is_imaged c.args.imaged.now.items) newest c.args.changes.now
     c.args.inserts.now db c.loop-place.items c.loop-place.pool) last (inv.staged told newest db shown are none fits)
+
+pub returns-clause-one : goal.returns-clause-one
+returns-clause-one g c = λ told newest db shown are fits whole.
+    let inv = c.loop-place.invariant in
+    let last : c.loop-place.place-index ≡ length c.args.places.now =
+    (let w = inv.within in let past = c.loop-place-test.false in omega (arith, w, past)) in
+    let here = inv.here in
+    let at = within_areas c.args.places.now whole.set whole.place whole.is_place in
+    let low = at.0 in
+    let high = at.1 in
+    one_in_all c.args.places.now c.args.changes.now c.args.inserts.now whole.set c.loop-place.set whole.place
+    c.loop-place.items whole.is_place whole.concerned (omega (arith, last, here, low, high))
+    (inv.one told newest db shown are fits whole)

@@ -5,13 +5,15 @@ use Rattle.fp_model.specs.State.{first_area_set}
 use Rattle.fp_model.specs.declared.database.Db.{Db}
 use Rattle.fp_site.specs.Site.{ReadsNothing}
 use Rattle.area_redo.specs.Redo.{AreaBytes}
+use Rattle.ci_pool.specs.Held.{SameAtHand}
 use Rattle.area_states.specs.Databases.{AreFor}
 use Rattle.area_staging.specs.Changing.{AllBefore}
 use Rattle.area_staging.specs.Flags.{AreFlagged}
 use Rattle.area_staging.specs.Items.{is_imaged}
 use Rattle.dedb_area.specs.Anchors.{ShowsAreas}
-use Rattle.dedb_area.specs.Committing.{AreStagedUpTo, ConcernedArePending, FitAreas, IsFitItem, StagesAll}
+use Rattle.dedb_area.specs.Committing.{AreStagedUpTo, ConcernedAreAtHand, FitAreas, IsFitItem, OneSegmentChanges, StagesAll}
 use Rattle.dedb_area.specs.Standing.{IsUnstaged}
+use Rattle.dedb_area.proofs.Ones.{HasOneItem}
 use Rattle.dedb_area.proofs.committing.stage_all.Given as goal
 
 -- the areas before this one are staged
@@ -34,7 +36,16 @@ invariant-loop-place g l = record {
       l.pool;
   unread : g.T.Site.told l.initial.site → (newest : AreaBytes)
       → ShowsAreas l.places (g.T.Site.disk l.initial.site).contents l.initial.pool newest
-      → ConcernedArePending l.places l.initial.pool newest l.changes l.inserts
+      → ConcernedAreAtHand l.places l.initial.pool newest l.changes l.inserts
       → ReadsNothing (g.T.Site.tells_reads l.initial.site) (g.T.Site.tells_reads l.site)
       (g.T.Site.bytes_read l.initial.site) (g.T.Site.bytes_read l.site);
+  one : g.T.Site.told l.initial.site → (newest : AreaBytes) (db : Db)
+      → ShowsAreas l.places (g.T.Site.disk l.initial.site).contents l.initial.pool newest
+      → AreFor l.places newest db → FitAreas l.places db l.changes
+      → OneSegmentChanges l.places db l.changes l.inserts
+      → HasOneItem l.places l.changes l.inserts l.set l.items;
+  hand : g.T.Site.told l.initial.site → (newest : AreaBytes)
+      → ShowsAreas l.places (g.T.Site.disk l.initial.site).contents l.initial.pool newest
+      → ConcernedAreAtHand l.places l.initial.pool newest l.changes l.inserts
+      → SameAtHand l.initial.pool l.pool;
 }

@@ -1,22 +1,24 @@
-use Rattle.std.proofs.Common.{◌∙◌, ◌≡◌, ℕ, refl, sym, ap, subst}
-use Rattle.std.specs.Prelude.{Some}
+use Rattle.std.proofs.Common.{◌≡◌, ◌∙◌, ◌≤◌, length, sym, subst, true}
+use Rattle.std.specs.List.{AllByRecursion}
+use Rattle.fp_model.specs.ItemTargets.{is_ascending}
 use Rattle.std.specs.Ordering.{nat_cmp}
 use Rattle.std.specs.BTreeMap.{get}
 use Rattle.std.proofs.lemmas.Result.{err_from_is_err_and}
-use Rattle.ci_pool.specs.Held.{pending_at}
+use Rattle.ci_pool.specs.Held.{held_at}
 use Rattle.root_anchor.proofs.Exits.{same_fault}
-use Rattle.area_states.specs.Places.{counted_by}
-use Rattle.area_staging.specs.Changing.{MakeChanges, StagesItems}
+use Rattle.area_staging.specs.Changing.{IsFitFor, MakeChanges, StagesItems}
 use Rattle.area_staging.specs.Items.{is_imaged}
-use Rattle.area_staging.specs.Staging.{AllPending}
+use Rattle.area_staging.specs.Staging.{AllAtHand}
+use Rattle.area_staging.proofs.AtHand.{hand_then, still_at_hand}
 use Rattle.area_staging.proofs.Data.{there}
 use Rattle.area_staging.proofs.Looks.{looks_then, same_staged}
 use Rattle.area_staging.proofs.Staged.{reads_nothing, reads_then}
 use Rattle.area_staging.proofs.Stages.{stages_looked, stages_then}
 use Rattle.dedb_area.specs.Committing.{MakesArea, committed}
-use Rattle.dedb_area.proofs.AnchorLemmas.{all_pending, begin_first, by_ok, some_counted, still_shown}
+use Rattle.dedb_area.proofs.AnchorLemmas.{begin_first, by_ok, some_counted, still_shown}
 use Rattle.dedb_area.proofs.CommitLemmas.{makes_area}
-use Rattle.dedb_area.proofs.StageLemmas.{given_ok, has_extent, on_ok, shows_extent, stages_behind}
+use Rattle.dedb_area.proofs.Ones.{at_most_one, just_one, ok_three}
+use Rattle.dedb_area.proofs.StageLemmas.{given_ok, has_extent, ok_both, on_ok, shows_extent, stages_behind}
 use Rattle.dedb_area.proofs.committing.stage_area.Goals as goal
 
 -- ---- control doesn't count
@@ -44,9 +46,14 @@ returns-in_err-count-clause-here g c = λ s begin end n e.
 
 pub returns-in_err-count-clause-unread : goal.returns-in_err-count-clause-unread
 returns-in_err-count-clause-unread g c = λ told bytes shown all.
-    let w = there (pending_at c.args.pool.now c.args.set 0) (all 0 (some_counted c.args.place.now (bytes 0))) in
+    let w = there (held_at c.args.pool.now c.args.set 0) (all 0 (some_counted c.args.place.now (bytes 0))) in
     reads_nothing g.T.Site.tells_reads g.T.Site.bytes_read c.args.site.now c.counted.new.site
     (c.counted.ensures.unread w.0 w.1)
+
+pub returns-in_err-count-clause-hand : goal.returns-in_err-count-clause-hand
+returns-in_err-count-clause-hand g c = λ told bytes shown all.
+    let w = there (held_at c.args.pool.now c.args.set 0) (all 0 (some_counted c.args.place.now (bytes 0))) in
+    c.counted.ensures.hand w.0 w.1
 
 pub returns-in_err-count-clause-stages : goal.returns-in_err-count-clause-stages
 returns-in_err-count-clause-stages g c =
@@ -94,14 +101,23 @@ pub returns-in_err-changed-clause-unread : goal.returns-in_err-changed-clause-un
 returns-in_err-changed-clause-unread g c = λ told bytes shown all.
     let place = c.args.place.now in
     let looks = c.counted.ensures.looks in
-    let w = there (pending_at c.args.pool.now c.args.set 0) (all 0 (some_counted place (bytes 0))) in
-    let all1 = all_pending g.T.Site.told g.T.Site.disk g.T.Site.faults g.T.Site.holds g.T.Site.keeps c.args.set
-    c.in_ok-count.count place.shape.ci c.args.site.now c.counted.new.site c.args.pool.now c.counted.new.pool looks
-    (subst (λ n. AllPending c.args.pool.now c.args.set n) (sym (c.in_ok-count.ensures.count told bytes shown)) all) in
+    let w = there (held_at c.args.pool.now c.args.set 0) (all 0 (some_counted place (bytes 0))) in
+    let all1 = still_at_hand c.args.set c.in_ok-count.count c.args.pool.now c.counted.new.pool
+    (subst (λ n. AllAtHand c.args.pool.now c.args.set n) (sym (c.in_ok-count.ensures.count told bytes shown)) all)
+    (c.counted.ensures.hand w.0 w.1) in
     reads_then g.T.Site.tells_reads g.T.Site.bytes_read c.args.site.now c.counted.new.site
     c.changed_intervals.new.site
     (reads_nothing g.T.Site.tells_reads g.T.Site.bytes_read c.args.site.now c.counted.new.site
     (c.counted.ensures.unread w.0 w.1)) (c.changed_intervals.ensures.unread all1)
+
+pub returns-in_err-changed-clause-hand : goal.returns-in_err-changed-clause-hand
+returns-in_err-changed-clause-hand g c = λ told bytes shown all.
+    let w = there (held_at c.args.pool.now c.args.set 0) (all 0 (some_counted c.args.place.now (bytes 0))) in
+    let all1 = still_at_hand c.args.set c.in_ok-count.count c.args.pool.now c.counted.new.pool
+    (subst (λ n. AllAtHand c.args.pool.now c.args.set n) (sym (c.in_ok-count.ensures.count told bytes shown)) all)
+    (c.counted.ensures.hand w.0 w.1) in
+    hand_then c.args.pool.now c.counted.new.pool c.changed_intervals.new.pool (c.counted.ensures.hand w.0 w.1)
+    (c.changed_intervals.ensures.hand all1)
 
 pub returns-in_err-changed-clause-stages : goal.returns-in_err-changed-clause-stages
 returns-in_err-changed-clause-stages g c =
@@ -143,6 +159,39 @@ returns-clause-made g c = λ told bytes shown state has fits.
     (λ items made. makes_area place c.args.set count (is_imaged c.args.imaged.now.items c.args.set) bytes
     (committed place c.args.changes.now c.args.inserts.now state) (get nat_cmp c.in_ok-changed.changed) items from made
     to))
+
+pub returns-clause-one : goal.returns-clause-one
+returns-clause-one g c = λ told bytes shown state has fits one concerned.
+    let place = c.args.place.now in
+    let count = c.in_ok-count.count in
+    let imaged = is_imaged c.args.imaged.now.items c.args.set in
+    let looks = c.counted.ensures.looks in
+    let looks2 = c.changed_intervals.ensures.looks in
+    let shown1 = still_shown g.T.Site.told g.T.Site.disk g.T.Site.faults g.T.Site.holds g.T.Site.keeps place c.args.set
+    bytes c.args.site.now c.counted.new.site c.args.pool.now c.counted.new.pool looks told shown in
+    let shown2 = still_shown g.T.Site.told g.T.Site.disk g.T.Site.faults g.T.Site.holds g.T.Site.keeps place c.args.set
+    bytes c.counted.new.site c.changed_intervals.new.site c.counted.new.pool c.changed_intervals.new.pool looks2
+    (looks.tells told) shown1 in
+    let from = c.in_ok-count.ensures.count told bytes shown in
+    let to = c.in_ok-changed.ensures.one (looks.tells told) bytes
+    (shows_extent place c.args.set count _ c.counted.new.pool bytes from shown1) state
+    (has_extent place count bytes state from has) fits one in
+    let most = given_ok c.given_items.result c.stage_changed-staged.result (λ items. length items ≤ 1)
+    c.given_items.ensures.same
+    (ok_three c.stage_changed-staged.result
+    (MakeChanges c.args.set count imaged bytes (get nat_cmp c.in_ok-changed.changed))
+    (AllByRecursion (IsFitFor c.args.set place.shape.ci)) (λ items. is_ascending items ≡ true)
+    (λ items. length items ≤ 1)
+    (c.stage_changed-staged.ensures.made (looks2.tells (looks.tells told)) bytes
+    (shows_extent place c.args.set count _ c.changed_intervals.new.pool bytes from shown2))
+    c.stage_changed-staged.ensures.fit c.stage_changed-staged.ensures.in_order
+    (λ items made fit up. at_most_one c.args.set count place.shape.ci imaged bytes
+    (get nat_cmp c.in_ok-changed.changed) items made to fit up)) in
+    ok_both c.given_items.result (λ items. length items ≤ 1)
+    (MakesArea place c.args.set imaged bytes (committed place c.args.changes.now c.args.inserts.now state))
+    (λ items. length items ≡ 1) most (returns-clause-made g c told bytes shown state has fits)
+    (λ items few makes. just_one place c.args.set imaged bytes c.args.changes.now c.args.inserts.now state has one
+    concerned items few makes)
 
 pub returns-clause-staged : goal.returns-clause-staged
 returns-clause-staged g c = λ told bytes shown.
@@ -187,13 +236,12 @@ returns-clause-unread g c = λ told bytes shown all.
     let count = c.in_ok-count.count in
     let looks = c.counted.ensures.looks in
     let looks2 = c.changed_intervals.ensures.looks in
-    let w = there (pending_at c.args.pool.now c.args.set 0) (all 0 (some_counted place (bytes 0))) in
-    let all1 = all_pending g.T.Site.told g.T.Site.disk g.T.Site.faults g.T.Site.holds g.T.Site.keeps c.args.set count
-    place.shape.ci c.args.site.now c.counted.new.site c.args.pool.now c.counted.new.pool looks
-    (subst (λ n. AllPending c.args.pool.now c.args.set n) (sym (c.in_ok-count.ensures.count told bytes shown)) all) in
-    let all2 = all_pending g.T.Site.told g.T.Site.disk g.T.Site.faults g.T.Site.holds g.T.Site.keeps c.args.set count
-    place.shape.ci c.counted.new.site c.changed_intervals.new.site c.counted.new.pool c.changed_intervals.new.pool
-    looks2 all1 in
+    let w = there (held_at c.args.pool.now c.args.set 0) (all 0 (some_counted place (bytes 0))) in
+    let all1 = still_at_hand c.args.set count c.args.pool.now c.counted.new.pool
+    (subst (λ n. AllAtHand c.args.pool.now c.args.set n) (sym (c.in_ok-count.ensures.count told bytes shown)) all)
+    (c.counted.ensures.hand w.0 w.1) in
+    let all2 = still_at_hand c.args.set count c.counted.new.pool c.changed_intervals.new.pool all1
+    (c.changed_intervals.ensures.hand all1) in
     reads_then g.T.Site.tells_reads g.T.Site.bytes_read c.args.site.now c.counted.new.site
     c.stage_changed-staged.new.site
     (reads_nothing g.T.Site.tells_reads g.T.Site.bytes_read c.args.site.now c.counted.new.site
@@ -202,6 +250,19 @@ returns-clause-unread g c = λ told bytes shown all.
     c.stage_changed-staged.new.site (c.changed_intervals.ensures.unread all1)
     (reads_nothing g.T.Site.tells_reads g.T.Site.bytes_read c.changed_intervals.new.site
     c.stage_changed-staged.new.site (c.stage_changed-staged.ensures.unread all2)))
+
+pub returns-clause-hand : goal.returns-clause-hand
+returns-clause-hand g c = λ told bytes shown all.
+    let count = c.in_ok-count.count in
+    let w = there (held_at c.args.pool.now c.args.set 0) (all 0 (some_counted c.args.place.now (bytes 0))) in
+    let all1 = still_at_hand c.args.set count c.args.pool.now c.counted.new.pool
+    (subst (λ n. AllAtHand c.args.pool.now c.args.set n) (sym (c.in_ok-count.ensures.count told bytes shown)) all)
+    (c.counted.ensures.hand w.0 w.1) in
+    let all2 = still_at_hand c.args.set count c.counted.new.pool c.changed_intervals.new.pool all1
+    (c.changed_intervals.ensures.hand all1) in
+    hand_then c.args.pool.now c.counted.new.pool c.stage_changed-staged.new.pool (c.counted.ensures.hand w.0 w.1)
+    (hand_then c.counted.new.pool c.changed_intervals.new.pool c.stage_changed-staged.new.pool
+    (c.changed_intervals.ensures.hand all1) (c.stage_changed-staged.ensures.hand all2))
 
 pub returns-clause-stages : goal.returns-clause-stages
 returns-clause-stages g c =

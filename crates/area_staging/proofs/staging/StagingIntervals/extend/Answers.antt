@@ -4,6 +4,7 @@ use Rattle.std.specs.Ordering.{nat_cmp}
 use Rattle.std.specs.BTreeMap.{get}
 use Rattle.std.proofs.lemmas.Bool.Decides.{nat_tests}
 use Rattle.ci_space.specs.Interval.{empty_bytes}
+use Rattle.ci_pool.specs.Held.{Held, held_at}
 use Rattle.held_intervals.proofs.Holds.{fit_again, unchanged_get}
 use Rattle.area_staging.proofs.Staged.{area_more, area_looked, fit_one_more, grows_more, grows_same, told_looked, looks_more, reads_then}
 use Rattle.area_staging.proofs.staging.StagingIntervals.extend.Goals as goal
@@ -32,6 +33,7 @@ returns-in_err-may_grow-clause-goes_on g c =
           grows = k.4.grows;
           reads = λ all. reads_then g.T.Site.tells_reads g.T.Site.bytes_read first.site.now s.site.now
               c.may_grow.new.site (k.4.reads all) c.may_grow.ensures.reads;
+          hand = λ all x y. ap (λ (p : Held). held_at p x y) c.may_grow.ensures.pool ∙ k.4.hand all x y;
         },
       );
     }
@@ -60,6 +62,7 @@ returns-in_err-interval-clause-goes_on g c =
           grows = k.4.grows;
           reads = λ all. reads_then g.T.Site.tells_reads g.T.Site.bytes_read first.site.now s.site.now
               c.may_grow.new.site (k.4.reads all) c.may_grow.ensures.reads;
+          hand = λ all x y. ap (λ (p : Held). held_at p x y) c.may_grow.ensures.pool ∙ k.4.hand all x y;
         },
       );
     }
@@ -95,6 +98,7 @@ returns-in-Err-clause-goes_on g c =
               (get nat_cmp c.insert.new.self) (unchanged_get c.args.self.now.staged c.insert.new.self c.in-Err.ensures.err) k.4.grows;
           reads = λ all. reads_then g.T.Site.tells_reads g.T.Site.bytes_read first.site.now s.site.now
               c.may_grow.new.site (k.4.reads all) c.may_grow.ensures.reads;
+          hand = λ all x y. ap (λ (p : Held). held_at p x y) c.may_grow.ensures.pool ∙ k.4.hand all x y;
         },
       );
     }
@@ -146,6 +150,7 @@ returns-clause-goes_on g c =
               (λ q ne. c.in-Ok.ensures.updates.2 q (search (rules, nat_tests)));
           reads = λ all. reads_then g.T.Site.tells_reads g.T.Site.bytes_read first.site.now s.site.now
               c.may_grow.new.site (k.4.reads all) c.may_grow.ensures.reads;
+          hand = λ all x y. ap (λ (p : Held). held_at p x y) c.may_grow.ensures.pool ∙ k.4.hand all x y;
         },
       );
     }

@@ -1,10 +1,10 @@
-use Rattle.std.proofs.Common.{rules, ◌≡◌, refl, sym, subst}
+use Rattle.std.proofs.Common.{rules, ◌≡◌, ◌∙◌, refl, sym, subst}
 use Rattle.std.specs.Prelude.{None, Some}
 use Rattle.std.specs.Ordering.{nat_cmp}
 use Rattle.std.specs.BTreeMap.{get}
-use Rattle.ci_pool.specs.Held.{pending_at}
+use Rattle.ci_pool.specs.Held.{held_at}
 use Rattle.held_intervals.proofs.Holds.{got, got_bad}
-use Rattle.area_staging.proofs.Staged.{in_staged, in_pool, told_looked, looks_more, reads_nothing, reads_then, still_pending}
+use Rattle.area_staging.proofs.Staged.{in_staged, in_pool, told_looked, looks_more, reads_nothing, reads_then, still_there}
 use Rattle.area_staging.proofs.staging.StagingIntervals.get.Goals as goal
 
 pub returns-in-Some-clause-ok : goal.returns-in-Some-clause-ok
@@ -55,13 +55,18 @@ returns-clause-goes_on g c =
               c.interval_at.new.site first.pool.now s.pool.now c.interval_at.new.pool k.2 k.3 k.4.looks look;
           grows = k.4.grows;
           reads = λ all.
-              let w = still_pending first.pool.now s.pool.now first.set c.args.ci first.count s.count
-              (get nat_cmp first.staged) (get nat_cmp s.staged) all k.4.grows k.4.looks.cells c.requires none in
+              let w = still_there first.pool.now s.pool.now first.set c.args.ci first.count s.count
+              (get nat_cmp first.staged) (get nat_cmp s.staged) all k.4.grows (k.4.hand all) c.requires none in
               reads_then g.T.Site.tells_reads g.T.Site.bytes_read first.site.now s.site.now c.interval_at.new.site
               (k.4.reads all)
               (reads_nothing g.T.Site.tells_reads g.T.Site.bytes_read s.site.now c.interval_at.new.site
               (c.interval_at.ensures.unasked w.0
-              (subst (λ x. pending_at s.pool.now x c.args.ci ≡ Some w.0) (sym k.2) w.1)));
+              (subst (λ x. held_at s.pool.now x c.args.ci ≡ Some w.0) (sym k.2) w.1)));
+          hand = λ all x y.
+              let w = still_there first.pool.now s.pool.now first.set c.args.ci first.count s.count
+              (get nat_cmp first.staged) (get nat_cmp s.staged) all k.4.grows (k.4.hand all) c.requires none in
+              c.interval_at.ensures.hand w.0 (subst (λ n. held_at s.pool.now n c.args.ci ≡ Some w.0) (sym k.2) w.1) x y
+              ∙ k.4.hand all x y;
         },
       );
     }

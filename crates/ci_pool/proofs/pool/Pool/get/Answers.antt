@@ -1,5 +1,5 @@
 use Rattle.std.proofs.Common.{◌≡◌, ℕ, ◌*◌, List, None, length, sym, subst, ◌∙◌, ap}
-use Rattle.std.specs.Prelude.{option_copied, Contains}
+use Rattle.std.specs.Prelude.{Contains}
 use Rattle.std.specs.Map.{lookup}
 use Rattle.lru.specs.LruCache.{LruCache}
 use Rattle.fp_site.specs.Disk.{read_range}
@@ -160,3 +160,20 @@ returns-clause-sizes g c s n same sized =
     (λ e. ap length found ∙ c.in_ok-bytes.ensures.size ∙ sym (same e)) was))
     (λ is. subst (λ (q : List_of). HasSize s n (record { bound = q.cap; clean = q.entries; cells = inside.cells }))
     (sym is) was)
+
+pub returns-then-contains-clause-hand : goal.returns-then-contains-clause-hand
+returns-then-contains-clause-hand g c bytes held s k =
+    let inside = c.self.inside in
+    ap (λ l. first_of (bytes_of (waiting_of (cell_at s k inside.cells))) l) (c.use_again.ensures.same s k)
+    ∙ ap (λ (p : Held). held_at p s k) c.self.view_is
+
+pub returns-clause-hand : goal.returns-clause-hand
+returns-clause-hand g c bytes held =
+    let inside = c.self.inside in
+    let waits = nothing_pending c.waiting_bytes.result (waiting_of (cell_at c.args.set c.args.ci inside.cells))
+    c.waiting_bytes.ensures c.in_default.is in
+    let absent = unstaged_none (lookup (is_key c.args.set c.args.ci) inside.clean.entries)
+    (sym c.contains.ensures ∙ c.if-contains.false) in
+    let pending = subst (λ (p : Held). pending_at p c.args.set c.args.ci ≡ None) c.self.view_is waits in
+    let clean = subst (λ (p : Held). clean_at p c.args.set c.args.ci ≡ None) c.self.view_is absent in
+    absurd (not_held c.args.self.now c.args.set c.args.ci pending clean bytes held)

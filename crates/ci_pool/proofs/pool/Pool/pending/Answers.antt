@@ -1,4 +1,4 @@
-use Rattle.std.proofs.Common.{◌≡◌, ℕ, ◌+◌, ◌*◌, ◌≤◌, ◌^◌, length, sym, subst, ◌∙◌, ap}
+use Rattle.std.proofs.Common.{◌≡◌, ◌+◌, ◌*◌, ◌≤◌, ◌^◌, length, sym, subst, ◌∙◌, ap}
 use Rattle.std.specs.Prelude.{option_copied}
 use Rattle.ci_pool.specs.Cells.{cell_at}
 use Rattle.ci_pool.specs.Held.{waiting_of}

@@ -1,14 +1,17 @@
-use Rattle.std.proofs.Common.{◌≡◌, sym, subst}
+use Rattle.std.proofs.Common.{◌≡◌, ◌∙◌, ap, sym, subst}
 use Rattle.std.specs.Prelude.{Some, IfOk}
 use Rattle.fp_model.specs.State.{roots_at}
 use Rattle.fp_site.specs.Site.{ReadsNothing}
 use Rattle.area_redo.specs.Standing.{behind}
+use Rattle.ci_pool.specs.Held.{SameAtHand}
 use Rattle.area_states.specs.Databases.{AreFor}
-use Rattle.area_states.specs.Places.{place_at}
-use Rattle.dedb_area.specs.Anchors.{AnchorIsPending, AreInTime, AreRootsOf, HasAnchorIn, IsDamagedFor}
+use Rattle.area_states.specs.Places.{place_at, places_of}
+use Rattle.area_laws.specs.Areas.{AreSentTo}
+use Rattle.dedb_area.specs.Anchors.{AnchorIsAtHand, AreInTime, AreRootsOf, HasAnchorIn, IsDamagedFor}
 use Rattle.dedb_area.specs.Looking.{LooksAtAreas}
 use Rattle.dedb_area.specs.Standing.{AreasStand, Holding}
-use Rattle.dedb_area.proofs.AnchorLemmas.{by_ok, damage_here, none_faulty, pending_here, roots_are, roots_here}
+use Rattle.dedb_area.proofs.AnchorLemmas.{at_hand_here, by_ok, damage_here, none_faulty, roots_are, roots_here}
+use Rattle.dedb_area.proofs.Sent.{sent_here}
 use Rattle.dedb_area.proofs.Looks.{areas_looked}
 use Rattle.dedb_area.proofs.areas.Areas.anchor.Goals as goal
 
@@ -41,6 +44,18 @@ returns-clause-database g c = λ told way bytes db stands are.
     (roots_here way bytes (g.T.Site.disk c.args.site.now) _ c.args.dedb c.args.anchor set place now has is
     c.roots_at.result (c.roots_at.ensures.roots told))
     (λ roots h. roots_are places (behind way.unsealed bytes) db c.args.dedb c.args.anchor roots are2 h)
+
+pub returns-clause-sent : goal.returns-clause-sent
+returns-clause-sent g c = λ told way bytes defs db def stands e are shaped defined.
+    let set = c.area_of-set.result in
+    let has = subst (λ l. HasAnchorIn l c.args.dedb c.args.anchor set) c.deref-places.ensures.value
+    c.area_of-set.ensures in
+    let there : place_at (places_of defs) set ≡ Some has.place =
+    ap (λ ps. place_at ps set) (sym e ∙ ap (λ (h : Holding). h.places) (sym c.self.view_is)) ∙ has.is.is_place in
+    by_ok c.roots_at.result (λ roots. roots ≡ roots_at db c.args.dedb c.args.anchor) (AreSentTo def c.args.anchor)
+    (returns-clause-database g c told way bytes db stands are)
+    (λ roots same. subst (AreSentTo def c.args.anchor) (sym same)
+    (sent_here defs set has.place db def c.args.dedb c.args.anchor has.number shaped there defined has.is.lies))
 
 pub returns-clause-damaged : goal.returns-clause-damaged
 returns-clause-damaged g c = λ told way bytes stands s at e.
@@ -78,12 +93,26 @@ returns-clause-unread g c = λ told way bytes stands all.
     c.area_of-set.ensures in
     let is = subst (λ l. place_at l set ≡ Some place) c.deref-places.ensures.value c.place_in-place.ensures in
     let now = subst (λ (h : Holding). AreasStand way bytes (g.T.Site.disk c.args.site.now) h) (sym c.self.view_is) stands in
-    let all2 = subst (λ (h : Holding). AnchorIsPending h.places h.pool (behind way.unsealed bytes) c.args.dedb
+    let all2 = subst (λ (h : Holding). AnchorIsAtHand h.places h.pool (behind way.unsealed bytes) c.args.dedb
     c.args.anchor) (sym c.self.view_is) all in
-    pending_here way bytes (g.T.Site.disk c.args.site.now) _ c.args.dedb c.args.anchor set place now has is
+    at_hand_here way bytes (g.T.Site.disk c.args.site.now) _ c.args.dedb c.args.anchor set place now has is
     (ReadsNothing (g.T.Site.tells_reads c.args.site.now) (g.T.Site.tells_reads c.roots_at.new.site)
     (g.T.Site.bytes_read c.args.site.now) (g.T.Site.bytes_read c.roots_at.new.site)) all2
     (c.roots_at.ensures.unread told)
+
+pub returns-clause-hand : goal.returns-clause-hand
+returns-clause-hand g c = λ told way bytes stands all.
+    let set = c.area_of-set.result in
+    let place = c.place_in-place.result.now in
+    let has = subst (λ l. HasAnchorIn l c.args.dedb c.args.anchor set) c.deref-places.ensures.value
+    c.area_of-set.ensures in
+    let is = subst (λ l. place_at l set ≡ Some place) c.deref-places.ensures.value c.place_in-place.ensures in
+    let now = subst (λ (h : Holding). AreasStand way bytes (g.T.Site.disk c.args.site.now) h) (sym c.self.view_is) stands in
+    let all2 = subst (λ (h : Holding). AnchorIsAtHand h.places h.pool (behind way.unsealed bytes) c.args.dedb
+    c.args.anchor) (sym c.self.view_is) all in
+    subst (λ (h : Holding). SameAtHand h.pool c.roots_at.new.pool) c.self.view_is
+    (at_hand_here way bytes (g.T.Site.disk c.args.site.now) _ c.args.dedb c.args.anchor set place now has is
+    (SameAtHand c.self.inside.pool c.roots_at.new.pool) all2 (c.roots_at.ensures.hand told))
 
 pub returns-clause-looks : goal.returns-clause-looks
 returns-clause-looks g c =

@@ -1,21 +1,23 @@
-use Rattle.std.proofs.Common.{◌≡◌, ◌≤◌, ℕ, List, length, sym, ◌∙◌, ap, subst}
+use Rattle.std.proofs.Common.{◌≡◌, ◌≤◌, List, length, sym, ◌∙◌, ap, subst}
 use Rattle.std.specs.Prelude.{None, Some}
 use Rattle.std.specs.List.{AllByRecursion}
 use Rattle.fp_model.specs.Commit.{FillsPart, first_full, with_anchors, with_inserts}
 use Rattle.fp_model.specs.State.{areas_of, first_area_set}
-use Rattle.fp_site.specs.Site.{ReadsNothing}
 use Rattle.area_redo.specs.Redo.{redone}
 use Rattle.area_redo.specs.Standing.{behind}
 use Rattle.area_states.specs.Databases.{AreFor}
 use Rattle.area_states.specs.Places.{ArePlaces, places_of}
 use Rattle.area_states.specs.declared.place.Place.{Place}
+use Rattle.ci_pool.specs.Held.{SameAtHand}
 use Rattle.area_staging.specs.Items.{is_imaged}
+use Rattle.area_staging.proofs.AtHand.{hand_of, hand_then}
 use Rattle.dedb_area.specs.Anchors.{AreInTime, ShowsAreas}
 use Rattle.dedb_area.specs.Appending.{MayEnter, StagesInAreas}
-use Rattle.dedb_area.specs.Committing.{AreStagedUpTo, ConcernedArePending, FitsCommit, IsBeginIn, IsFitItem, MayStage, OnlyChanges, StagesAll}
+use Rattle.dedb_area.specs.Committing.{AreStagedUpTo, ConcernedAreAtHand, FitsCommit, IsBeginIn, IsFitItem, MayStage, OnlyChanges, StagesAll}
 use Rattle.dedb_area.specs.Standing.{AreasStand, Holding}
 use Rattle.dedb_area.proofs.AnchorLemmas.{shows}
-use Rattle.dedb_area.proofs.CommitLaws.{fills_first, fit_areas, for_committed, may_enter, none_full}
+use Rattle.dedb_area.proofs.CommitLaws.{fills_first, fit_areas, for_committed, may_enter, none_full, one_segment}
+use Rattle.dedb_area.proofs.Fitting.{defined_items}
 use Rattle.dedb_area.proofs.StageLemmas.{same_err}
 use Rattle.dedb_area.proofs.Staying.{drop_stages, drop_stands, stages_areas}
 use Rattle.dedb_area.proofs.areas.Areas.stage.Goals as goal
@@ -117,6 +119,28 @@ returns-in-Ok-clause-enters g c = λ told way bytes defs db stands e are fits.
     (may_enter way bytes (g.T.Site.disk c.args.site.now) _ changes inserts db c.in-Ok.items c.stage_all.new.pool now
     all2)
 
+pub returns-in-Ok-clause-one : goal.returns-in-Ok-clause-one
+returns-in-Ok-clause-one g c = λ told way bytes defs db change stands e are fits only none differs.
+    let places = c.deref-places.result.now in
+    let value = c.deref-places.ensures.value in
+    let newest = behind way.unsealed bytes in
+    let now = subst (λ (h : Holding). AreasStand way bytes (g.T.Site.disk c.args.site.now) h) (sym c.self.view_is)
+    stands in
+    let shown = subst (λ ps. ShowsAreas ps (g.T.Site.disk c.args.site.now).contents c.self.inside.pool newest) (sym value)
+    (shows way bytes (g.T.Site.disk c.args.site.now) _ now) in
+    let are2 = subst (λ ps. AreFor ps newest db) (sym value)
+    (subst (λ (h : Holding). AreFor h.places newest db) (sym c.self.view_is) are) in
+    let e2 : places ≡ places_of defs =
+    value ∙ subst (λ (h : Holding). h.places ≡ places_of defs) (sym c.self.view_is) e in
+    let changes = c.as_slice.result.now in
+    let inserts = c.as_slice-2.result.now in
+    let fits2 = subst (λ x. FitsCommit defs db x inserts) (sym c.as_slice.ensures)
+    (subst (FitsCommit defs db c.args.changes.now) (sym c.as_slice-2.ensures) fits) in
+    let fit = fit_areas defs places db changes inserts e2 fits2 in
+    c.in-Ok.ensures.one told newest db shown are2 fit
+    (one_segment defs places db changes inserts change e2 fits2 (c.as_slice.ensures ∙ only)
+    (c.as_slice-2.ensures ∙ none) differs)
+
 pub returns-in-Ok-clause-other : goal.returns-in-Ok-clause-other
 returns-in-Ok-clause-other g c = λ told way bytes defs db stands e are fits.
     let places = c.deref-places.result.now in
@@ -166,6 +190,12 @@ returns-in-Ok-clause-fit g c =
     subst (λ (h : Holding). AllByRecursion (IsFitItem h.places) c.in-Ok.items) c.self.view_is
     (subst (λ ps. AllByRecursion (IsFitItem ps) c.in-Ok.items) c.deref-places.ensures.value c.in-Ok.ensures.fit)
 
+pub returns-in-Ok-clause-defined : goal.returns-in-Ok-clause-defined
+returns-in-Ok-clause-defined g c = λ defs e.
+    let e2 = c.deref-places.ensures.value
+    ∙ subst (λ (h : Holding). h.places ≡ places_of defs) (sym c.self.view_is) e in
+    defined_items defs c.deref-places.result.now c.in-Ok.items e2 c.in-Ok.ensures.fit
+
 pub returns-in-Ok-clause-unread : goal.returns-in-Ok-clause-unread
 returns-in-Ok-clause-unread g c = λ told way bytes stands all.
     let places = c.deref-places.result.now in
@@ -176,11 +206,28 @@ returns-in-Ok-clause-unread g c = λ told way bytes stands all.
     let shown = subst (λ ps. ShowsAreas ps (g.T.Site.disk c.args.site.now).contents c.self.inside.pool newest) (sym value)
     (shows way bytes (g.T.Site.disk c.args.site.now) _ now) in
     c.stage_all.ensures.unread told newest shown
-    (subst (λ x. ConcernedArePending places c.self.inside.pool newest x c.as_slice-2.result.now) (sym c.as_slice.ensures)
-    (subst (λ x. ConcernedArePending places c.self.inside.pool newest c.args.changes.now x) (sym c.as_slice-2.ensures)
-    (subst (λ ps. ConcernedArePending ps c.self.inside.pool newest c.args.changes.now c.args.inserts.now) (sym value)
-    (subst (λ (h : Holding). ConcernedArePending h.places h.pool newest c.args.changes.now c.args.inserts.now)
+    (subst (λ x. ConcernedAreAtHand places c.self.inside.pool newest x c.as_slice-2.result.now) (sym c.as_slice.ensures)
+    (subst (λ x. ConcernedAreAtHand places c.self.inside.pool newest c.args.changes.now x) (sym c.as_slice-2.ensures)
+    (subst (λ ps. ConcernedAreAtHand ps c.self.inside.pool newest c.args.changes.now c.args.inserts.now) (sym value)
+    (subst (λ (h : Holding). ConcernedAreAtHand h.places h.pool newest c.args.changes.now c.args.inserts.now)
     (sym c.self.view_is) all))))
+
+pub returns-in-Ok-clause-hand : goal.returns-in-Ok-clause-hand
+returns-in-Ok-clause-hand g c = λ told way bytes stands all.
+    let places = c.deref-places.result.now in
+    let value = c.deref-places.ensures.value in
+    let newest = behind way.unsealed bytes in
+    let now = subst (λ (h : Holding). AreasStand way bytes (g.T.Site.disk c.args.site.now) h) (sym c.self.view_is)
+    stands in
+    let shown = subst (λ ps. ShowsAreas ps (g.T.Site.disk c.args.site.now).contents c.self.inside.pool newest) (sym value)
+    (shows way bytes (g.T.Site.disk c.args.site.now) _ now) in
+    let same = c.stage_all.ensures.hand told newest shown
+    (subst (λ x. ConcernedAreAtHand places c.self.inside.pool newest x c.as_slice-2.result.now) (sym c.as_slice.ensures)
+    (subst (λ x. ConcernedAreAtHand places c.self.inside.pool newest c.args.changes.now x) (sym c.as_slice-2.ensures)
+    (subst (λ ps. ConcernedAreAtHand ps c.self.inside.pool newest c.args.changes.now c.args.inserts.now) (sym value)
+    (subst (λ (h : Holding). ConcernedAreAtHand h.places h.pool newest c.args.changes.now c.args.inserts.now)
+    (sym c.self.view_is) all)))) in
+    subst (λ (h : Holding). SameAtHand h.pool c.stage_all.new.pool) c.self.view_is same
 
 pub returns-in-Ok-clause-stages : goal.returns-in-Ok-clause-stages
 returns-in-Ok-clause-stages g c =
@@ -262,11 +309,31 @@ returns-in-Err-clause-unread g c = λ told way bytes stands all.
     let shown = subst (λ ps. ShowsAreas ps (g.T.Site.disk c.args.site.now).contents c.self.inside.pool newest) (sym value)
     (shows way bytes (g.T.Site.disk c.args.site.now) _ now) in
     c.stage_all.ensures.unread told newest shown
-    (subst (λ x. ConcernedArePending places c.self.inside.pool newest x c.as_slice-2.result.now) (sym c.as_slice.ensures)
-    (subst (λ x. ConcernedArePending places c.self.inside.pool newest c.args.changes.now x) (sym c.as_slice-2.ensures)
-    (subst (λ ps. ConcernedArePending ps c.self.inside.pool newest c.args.changes.now c.args.inserts.now) (sym value)
-    (subst (λ (h : Holding). ConcernedArePending h.places h.pool newest c.args.changes.now c.args.inserts.now)
+    (subst (λ x. ConcernedAreAtHand places c.self.inside.pool newest x c.as_slice-2.result.now) (sym c.as_slice.ensures)
+    (subst (λ x. ConcernedAreAtHand places c.self.inside.pool newest c.args.changes.now x) (sym c.as_slice-2.ensures)
+    (subst (λ ps. ConcernedAreAtHand ps c.self.inside.pool newest c.args.changes.now c.args.inserts.now) (sym value)
+    (subst (λ (h : Holding). ConcernedAreAtHand h.places h.pool newest c.args.changes.now c.args.inserts.now)
     (sym c.self.view_is) all))))
+
+pub returns-in-Err-clause-hand : goal.returns-in-Err-clause-hand
+returns-in-Err-clause-hand g c = λ told way bytes stands all.
+    let places = c.deref-places.result.now in
+    let value = c.deref-places.ensures.value in
+    let newest = behind way.unsealed bytes in
+    let now = subst (λ (h : Holding). AreasStand way bytes (g.T.Site.disk c.args.site.now) h) (sym c.self.view_is)
+    stands in
+    let shown = subst (λ ps. ShowsAreas ps (g.T.Site.disk c.args.site.now).contents c.self.inside.pool newest) (sym value)
+    (shows way bytes (g.T.Site.disk c.args.site.now) _ now) in
+    let same = c.stage_all.ensures.hand told newest shown
+    (subst (λ x. ConcernedAreAtHand places c.self.inside.pool newest x c.as_slice-2.result.now) (sym c.as_slice.ensures)
+    (subst (λ x. ConcernedAreAtHand places c.self.inside.pool newest c.args.changes.now x) (sym c.as_slice-2.ensures)
+    (subst (λ ps. ConcernedAreAtHand ps c.self.inside.pool newest c.args.changes.now c.args.inserts.now) (sym value)
+    (subst (λ (h : Holding). ConcernedAreAtHand h.places h.pool newest c.args.changes.now c.args.inserts.now)
+    (sym c.self.view_is) all)))) in
+    let dropped = hand_of c.stage_all.new.pool c.drop_staged.new.self c.drop_staged.ensures.pending
+    c.drop_staged.ensures.list in
+    subst (λ (h : Holding). SameAtHand h.pool c.drop_staged.new.self) c.self.view_is
+    (hand_then c.self.inside.pool c.stage_all.new.pool c.drop_staged.new.self same dropped)
 
 pub returns-in-Err-clause-stands : goal.returns-in-Err-clause-stands
 returns-in-Err-clause-stands g c = λ told way bytes stands.

@@ -1,21 +1,29 @@
-use Rattle.std.proofs.Common.{◌≡◌, ◌∙◌, refl, sym, subst, length, arith}
+use Rattle.std.proofs.Common.{◌≡◌, ◌∙◌, [], refl, sym, subst, length, arith}
 use Rattle.std.specs.Prelude.{None, Some, IfOk}
+use Rattle.std.specs.List.{AllByRecursion}
 use Rattle.std.proofs.lemmas.Result.{err_from_is_err_and}
 use Rattle.root_anchor.proofs.Exits.{same_fault}
 use Rattle.held_intervals.specs.Holding.{held_or}
+use Rattle.area_redo.specs.Redo.{redone}
 use Rattle.area_redo.specs.Standing.{behind}
+use Rattle.area_states.specs.Databases.{AreFor}
 use Rattle.area_states.specs.declared.place.Place.{Place}
-use Rattle.area_states.specs.Places.{place_at}
-use Rattle.area_staging.specs.Changing.{AreStagedBy}
+use Rattle.area_states.specs.Places.{ArePlaces, place_at}
+use Rattle.fp_model.specs.Items.{IsFit}
+use Rattle.area_staging.specs.Changing.{AreStagedBy, IsFitFor}
 use Rattle.dedb_area.specs.Appending.{MayEnter, StagesInAreas}
 use Rattle.area_staging.specs.Items.{is_imaged}
 use Rattle.area_staging.specs.Items.{items_in}
 use Rattle.dedb_area.specs.Purging.{IsPurgeStaged, IsPurged, MayPurge}
 use Rattle.dedb_area.specs.Standing.{AreasStand, Holding, IsUnstaged}
 use Rattle.dedb_area.specs.declared.fault.AreaFault.TheVariants as fault
+use Rattle.dedb_area.specs.Committing.{IsFitItem}
 use Rattle.dedb_area.proofs.AnchorLemmas.{by_ok, shows, within_areas}
+use Rattle.dedb_area.proofs.Fitting.{defined_items}
+use Rattle.dedb_area.proofs.StagedAreas.{fit_more_items}
 use Rattle.dedb_area.proofs.StagedPurge.{at_err, none_staged, others_stay, purge_none, purge_staged, stages_here, stages_none, stands_then, still_unstaged}
 use Rattle.dedb_area.proofs.Looks.{areas_looked}
+use Rattle.dedb_area.proofs.PurgeDatabases.{purge_places}
 use Rattle.dedb_area.proofs.PurgeEntry.{enters_purge}
 use Rattle.dedb_area.proofs.PurgeItems.{staged_by}
 use Rattle.dedb_area.proofs.areas.Areas.stage_purge.Goals as goal
@@ -227,3 +235,38 @@ returns-clause-enters g c = λ told way bytes stands.
     (returns-clause-purged g c told way bytes stands)
     (λ item p. enters_purge way bytes (g.T.Site.disk c.args.site.now) c.args.self.now c.args.n c.args.set
     c.stage_control.new.pool item place stands there p)
+
+pub returns-clause-fit : goal.returns-clause-fit
+returns-clause-fit g c =
+    let place = c.place_in-place.result.now in
+    let is = subst (λ l. place_at l c.args.set ≡ Some place) c.deref-places.ensures.value c.place_in-place.ensures in
+    let long : length c.in-Some.new ≡ place.shape.ci = c.in_ok-old.ensures.new_size c.in-Some.new c.in-Some.is in
+    subst (λ (h : Holding). IfOk c.stage_control.result (λ item. AllByRecursion (IsFitItem h.places) (items_in item)))
+    c.self.view_is
+    (by_ok c.stage_control.result (λ item. AllByRecursion (IsFitFor c.args.set (length c.in-Some.new)) (items_in item))
+    (λ item. AllByRecursion (IsFitItem c.self.inside.places.items) (items_in item)) c.stage_control.ensures.fit
+    (λ item fit. fit_more_items c.self.inside.places.items c.args.set place [] (items_in item) is tt
+    (subst (λ n. AllByRecursion (IsFitFor c.args.set n) (items_in item)) long fit)))
+
+pub returns-clause-defined : goal.returns-clause-defined
+returns-clause-defined g c = λ defs e.
+    by_ok c.stage_control.result (λ item. AllByRecursion (IsFitItem c.args.self.now.places) (items_in item))
+    (λ item. AllByRecursion (IsFit defs) (items_in item)) (returns-clause-fit g c)
+    (λ item fit. defined_items defs c.args.self.now.places (items_in item) e fit)
+
+pub returns-in-None-clause-databases : goal.returns-in-None-clause-databases
+returns-in-None-clause-databases g c = λ told way bytes defs db next stands e are shaped is.
+    let good = subst (λ (h : Holding). ArePlaces h.places) c.self.view_is c.self.invariant.1 in
+    purge_places defs c.args.self.now.places c.args.set c.args.n db next (behind way.unsealed bytes)
+    (is_imaged c.args.self.now.imaged c.args.set 0) c.control_purged.new.pool None e are good
+    (returns-in-None-clause-purged g c told way bytes stands) shaped is
+
+pub returns-clause-databases : goal.returns-clause-databases
+returns-clause-databases g c = λ told way bytes defs db next stands e are shaped is.
+    let good = subst (λ (h : Holding). ArePlaces h.places) c.self.view_is c.self.invariant.1 in
+    by_ok c.stage_control.result (IsPurgeStaged c.args.n c.args.set (is_imaged c.args.self.now.imaged c.args.set 0)
+    (behind way.unsealed bytes c.args.set 0) c.stage_control.new.pool)
+    (λ item. AreFor c.args.self.now.places (redone (items_in item) (behind way.unsealed bytes)) next)
+    (returns-clause-purged g c told way bytes stands)
+    (λ item p. purge_places defs c.args.self.now.places c.args.set c.args.n db next (behind way.unsealed bytes)
+    (is_imaged c.args.self.now.imaged c.args.set 0) c.stage_control.new.pool item e are good p shaped is)
