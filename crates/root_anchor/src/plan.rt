@@ -3,7 +3,8 @@
 //! Each new segment takes the element in which the segment of its type and its key stood, below the element that its
 //! parent takes. So what doesn't change isn't written again. New segments and elements are both in hierarchical order,
 //! and both are gone through once, from the last to the first: what is left to look at ends at `to`. What a plan
-//! promises doesn't rest on that order: only that no element is taken twice, and each by a segment of its type.
+//! promises doesn't rest on that order: that no element is taken twice, and each by a segment of its type; and where the
+//! segments have the types and keys of those that stand, that each takes the element that it had (`kept`).
 
 ghost use Rattle.std.specs.Prelude.{◌≡◌, ◌<◌, ◌≤◌, ◌+◌, ◌++◌, ◌∷◌, [], ℕ, List, OnOk, IfOk, IsErr, Err, IfSome, IfNone, Some, length, map, true};
 ghost use Rattle.fp_model.specs.Order.{child_types, key_in as key_of_type};
