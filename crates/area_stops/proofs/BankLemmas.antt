@@ -1,6 +1,6 @@
 -- The areas of the bank's definitions, what may be staged in them, and items that fit.
-use Rattle.std.proofs.Common.{◌≡◌, inl, inr, ℕ, zero, suc, ◌<◌, ◌≤◌, ◌*◌, ◌-◌, ◌+◌, ◌^◌, List, [], ◌∷◌, ◌++◌, length, map, true, false, refl, sym, ◌∙◌, ap, subst, arith}
-use Rattle.std.specs.Prelude.{◌&&◌, ◌==◌, if◌then◌else◌, nat_lt, Bool, Some, None, Option, slice_get}
+use Rattle.std.proofs.Common.{◌≡◌, inl, inr, ℕ, zero, suc, ◌<◌, ◌≤◌, ◌-◌, ◌+◌, ◌^◌, List, [], ◌∷◌, ◌++◌, length, map, true, false, refl, sym, ◌∙◌, ap, subst, arith}
+use Rattle.std.specs.Prelude.{◌==◌, if◌then◌else◌, nat_lt, Bool, Some, None, slice_get}
 use Rattle.std.specs.List.{AllByRecursion}
 use Rattle.std.proofs.lemmas.Bool.{cases_Bool}
 use Rattle.std.proofs.lemmas.Bool.Decides.{nat_tests}
@@ -13,13 +13,14 @@ use Rattle.fp_model.specs.declared.definitions.Defs.{Defs}
 use Rattle.fp_model.specs.declared.definitions.SegDef.{SegDef}
 use Rattle.fp_model.specs.WellFormed.{AreDefs, has_sequential}
 use Rattle.root_anchor.specs.Chains.{newest}
-use Rattle.root_anchor.specs.Stored.{are_storable, is_newest, is_storable}
+use Rattle.root_anchor.specs.Stored.{is_newest, is_storable}
 use Rattle.area_states.specs.declared.place.Place.{Place}
 use Rattle.area_states.specs.Changes.{IsInsertable, IsStorable, kept_root}
 use Rattle.area_states.specs.Places.{place_at, place_of, places_from, places_of}
 use Rattle.fp_model.specs.State.{anchors_in, areas_from}
 use Rattle.fp_model.specs.declared.log.Item.{Item}
 use Rattle.fp_model.specs.declared.log.Item.TheVariants.{Segment, Image, Range}
+use Rattle.fp_model.specs.LogText.{FitsItem}
 use Rattle.dedb_area.specs.Applying.{IsFitImage, IsFitInterval}
 use Rattle.area_states.specs.States.{newest_serial}
 use Rattle.dedb_area.specs.Committing.{MayStage}
@@ -135,6 +136,15 @@ is_bank defs are one all =
 
 -- ---- items
 
+spelled : (item : Item) → FitsBank item → FitsItem item
+spelled (Segment msdb key bytes) fits = absurd fits
+spelled (Image set ci bytes) fits = omega (arith, fits.2)
+spelled (Range set ci at bytes) fits = (fits.0, omega (arith, fits.1))
+
+pub all_spelled : (items : List Item) → AllByRecursion FitsBank items → AllByRecursion FitsItem items
+all_spelled [] all = tt
+all_spelled (item ∷ items) all = (spelled item all.0, all_spelled items all.1)
+
 fits_image : (places : List Place) (set ci : ℕ) (bytes : List ℕ) → HasArea places set → length bytes ≡ 512
     → ci < 2 ^ 40 → IsFitInterval places set ci (length bytes)
 fits_image places set ci bytes has is below =
@@ -148,7 +158,7 @@ fits_image places set ci bytes has is below =
 
 fits_item : (defs : Defs) (places : List Place) → HasBank defs places → (item : Item) → FitsBank item
     → IsFitImage places item
-fits_item defs places bank (Segment msdb key bytes) fits = tt
+fits_item defs places bank (Segment msdb key bytes) fits = absurd fits
 fits_item defs places bank (Image set ci bytes) fits =
     fits_image places set ci bytes
     (subst (λ ps. HasArea ps set) (sym bank.1) (bank.0.areas set fits.0 fits.1)) fits.2 fits.3

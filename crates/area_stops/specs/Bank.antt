@@ -1,6 +1,6 @@
 -- The database of the tests: customers of 16 bytes, notes of 8 bytes in order of entry, and loans, in two areas of intervals of
 -- 512 bytes.
-use Rattle.std.specs.Prelude.{◌≡◌, ⊤, ℕ, ◌≤◌, ◌<◌, ◌^◌, List, [], ◌∷◌, length, map, true, Some}
+use Rattle.std.specs.Prelude.{◌≡◌, ℕ, ◌≤◌, ◌<◌, ◌^◌, List, [], ◌∷◌, length, map, true, Some}
 use Rattle.std.specs.List.{AllByRecursion}
 use Rattle.fp_model.specs.declared.calls.AnchorChange.{AnchorChange}
 use Rattle.fp_model.specs.declared.calls.SeqInsert.{SeqInsert}
@@ -62,8 +62,8 @@ IsNote i = length i.bytes ≡ 8
 abbrev pub HasBank : Defs → List Place → Type 0
 HasBank defs places = IsBank defs × (places ≡ places_of defs)
 
--- an image is of an area, and not too far behind
+-- an image is of an area, and not too far behind; a range has some bytes
 abbrev pub FitsBank : Item → Type 0
-FitsBank (Segment msdb key bytes) = ⊤
+FitsBank (Segment msdb key bytes) = ⊥
 FitsBank (Image set ci bytes) = (3 ≤ set) × (set ≤ 4) × (length bytes ≡ 512) × (ci < 2 ^ 40)
-FitsBank (Range set ci at bytes) = ⊤
+FitsBank (Range set ci at bytes) = (1 ≤ length bytes) × (length bytes ≤ 512)

@@ -1,15 +1,18 @@
-//! Areas over a site in memory, and the entries that stand: each commit has one, and a log keeps those that are sealed.
+//! Areas and their log over a site in memory. Each commit and each Purge has an entry of the log with its items.
 ghost use Rattle.area_staging.specs.Flags.{AreFlagged};
-ghost use Rattle.area_stops.specs.Bank.{FitsBank, HasBank, HasCustomers, IsNote};
+ghost use Rattle.area_stops.specs.Bank.{HasBank, HasCustomers, IsBank, IsNote};
+ghost use Rattle.fp_model.specs.ItemTargets.{is_ascending};
 ghost use Rattle.std.specs.List.{AllByRecursion};
-ghost use Rattle.std.specs.Prelude.{◌≡◌, ◌-◌, ◌<◌, ◌^◌, ◌≤◌, IfOk, IfSome};
+ghost use Rattle.std.specs.Prelude.{◌≡◌, ◌≤◌, IfOk, IfSome, true};
 
 use crate::bank::read_bank;
 use crate::changes::{Change, all_fit, are_notes, have_customers, insert_of, put, text_of};
-use ci_pool::Pool;
-use dedb_area::{ApplyFault, AreaFault, Areas};
+use crate::logging::{apply_log, entry_of, make_log, open_log};
+use ci_pool::{Owed, Pool};
+use dedb_area::{AreaFault, Areas};
 use fp_model::{AnchorChange, Bytes, Defs, Item, List, SeqInsert};
 use fp_site::MemorySite;
+use log_groups::Log;
 use std::alloc::{AllocError, Global};
 use std::test::Fail;
 
@@ -18,6 +21,8 @@ use std::test::Fail;
 pub(crate) enum Step {
     /// A commit of these changes, and what comes of it.
     Commit(&'static [Change], Came),
+    /// These changes are staged, and dropped.
+    Drops(&'static [Change]),
     /// A Purge of so many notes of a data set.
     Purge(u16, u64, Came),
     /// All entries are sealed.
@@ -26,7 +31,13 @@ pub(crate) enum Step {
     Write,
     /// Every interval that waits is written, and the areas are synced. All entries are sealed then.
     WriteAll,
-    /// The areas are opened anew, and the sealed entries applied: the mark is their end.
+    /// A checkpoint begins, all entries being sealed.
+    Mark,
+    /// What it is owed; an interval that may be written is.
+    Owes(Owed),
+    /// The areas are synced, and the checkpoint is sure: a restart applies the entries behind its mark.
+    Sync,
+    /// The log and the areas are opened anew, and the sealed entries applied: the mark is their end.
     Restart,
     /// An anchor has these roots.
     Shows(u32, &'static [u8]),
@@ -37,7 +48,7 @@ pub(crate) enum Step {
 }
 
 /// What comes of staging.
-#[derive(Clone, Copy, PartialEq, Eq)]
+#[derive(Clone, Copy)]
 pub(crate) enum Came {
     /// Items, whatever they are.
     Some,
@@ -48,7 +59,7 @@ pub(crate) enum Came {
 }
 
 /// An item: its data set and interval, and of a range its place and bytes.
-#[derive(Clone, Copy, PartialEq, Eq)]
+#[derive(Clone, Copy)]
 pub(crate) enum Named {
     Image(u16, u64),
     Range(u16, u64, u16, &'static [u8]),
@@ -65,15 +76,20 @@ pub(crate) enum Ended {
     Otherwise,
 }
 
-/// Areas, their site, and the items of each entry.
+/// Areas with their log, and their site.
 #[derive(Drop)]
 pub(crate) struct Bench {
     alloc: Global,
     defs: Defs,
     areas: Areas,
+    pub(crate) log: Log,
     pub(crate) site: MemorySite,
-    log: Vec<List<Item>>,
-    pub(crate) sealed: usize,
+    /// How many clean intervals the pool may have.
+    bound: u32,
+    /// How many entries stood at the mark.
+    mark: u64,
+    /// How many stood at the mark of the last checkpoint that is sure.
+    checked: u64,
 }
 
 /// Whether an item is the one that is named.
@@ -87,18 +103,30 @@ fn is_named(item: &Item, named: &Named) -> bool {
     }
 }
 
+/// Whether each item is the one that is named, as far as both go.
+fn are_named(items: &[Item], named: &[Named]) -> bool {
+    for (item, one) in items.iter().zip(named.iter()) {
+        if !is_named(item, one) {
+            return false;
+        }
+    }
+    true
+}
+
 /// Whether items are those that came.
 fn are_wanted(items: &[Item], came: &Came) -> bool {
     match came {
         Came::Some => !items.is_empty(),
-        Came::Items(named) => {
-            items.len() == named.len()
-                && items
-                    .iter()
-                    .zip(named.iter())
-                    .all(|(item, one)| is_named(item, one))
-        }
+        Came::Items(named) => items.len() == named.len() && are_named(items, named),
         Came::Full(..) => false,
+    }
+}
+
+/// Whether a part was to be so full.
+fn is_full(came: &Came, set: u16, begin: u64, end: u64, n: u64) -> bool {
+    match came {
+        Came::Full(s, b, e, m) => *s == set && *b == begin && *e == end && *m == n,
+        _ => false,
     }
 }
 
@@ -109,11 +137,7 @@ fn ended_by(fault: AreaFault, came: &Came) -> Result<Ended, AllocError> {
         AreaFault::Device => Ok(Ended::Failed),
         AreaFault::Damaged { .. } => Ok(Ended::Otherwise),
         AreaFault::SeqFull { set, begin, end, n } => {
-            if *came == Came::Full(set, begin, end, n) {
-                Ok(Ended::Well)
-            } else {
-                Ok(Ended::Otherwise)
-            }
+            Ok(well_if(is_full(came, set, begin, end, n)))
         }
     }
 }
@@ -122,19 +146,41 @@ fn well_if(is_so: bool) -> Ended {
     if is_so { Ended::Well } else { Ended::Otherwise }
 }
 
-/// Applies the items of the entry at a place.
-fn apply(areas: &mut Areas, defs: &Defs, items: &List<Item>, place: u64) -> Result<(), ApplyFault>
-    requires bank { HasBank defs.now areas.old.places }
-    requires fit { AllByRecursion FitsBank items.now }
-    requires place { place < 2 ^ 64 - 1 }
-    ensures { areas.new.places ≡ areas.old.places }
+/// The log and the areas of a site, with the entries of the log from this one on applied. None where the site failed, or
+/// they can't be.
+fn opened(
+    alloc: Global,
+    defs: Defs,
+    mut site: MemorySite,
+    bound: u32,
+    checked: u64,
+) -> Result<Option<Bench>, Fail>
+    requires bank { IsBank defs }
+    requires bound { 1 ≤ bound }
+    ensures { IfOk result (λ found. IfSome found (λ bench. HasBank bench.defs bench.areas.places)) }
 {
-    let _ = defs;
-    areas.apply(items, place)
+    let Some(mut log) = open_log(alloc, &mut site)? else {
+        return Ok(None);
+    };
+    let mut areas = Areas::open(alloc, &defs, Pool::new(alloc, bound)?)?;
+    if !apply_log(&mut areas, &defs, &mut log, &mut site, checked)? {
+        return Ok(None);
+    }
+    let mark = log.sealed();
+    Ok(Some(Bench {
+        alloc,
+        defs,
+        areas,
+        log,
+        site,
+        bound,
+        mark,
+        checked,
+    }))
 }
 
 impl Bench {
-    /// Formatted areas with a pool of so many clean intervals. None where the site failed.
+    /// Formatted areas with a pool of so many clean intervals, and a new log. None where the site failed.
     pub(crate) fn formatted(
         alloc: Global,
         mut site: MemorySite,
@@ -151,49 +197,23 @@ impl Bench {
             Err(AreaFault::Memory) => return Err(AllocError.into()),
             Err(_) => return Ok(None),
         }
-        let areas = Areas::open(alloc, &defs, Pool::new(alloc, bound)?)?;
-        Ok(Some(Bench {
-            alloc,
-            defs,
-            areas,
-            site,
-            log: Vec::new(alloc),
-            sealed: 0,
-        }))
+        if !make_log(alloc, &mut site)? {
+            return Ok(None);
+        }
+        opened(alloc, defs, site, bound, 0)
     }
 
-    /// The areas that a restart finds over this site, behind the entries that are sealed here. None where an entry can't be
-    /// applied.
+    /// What a restart finds over this site. None where the site failed, or the log can't be applied.
     pub(crate) fn restarted(&self, site: MemorySite) -> Result<Option<Bench>, Fail>
         ensures { IfOk result (λ found. IfSome found (λ bench. HasBank bench.defs bench.areas.places)) }
     {
         let Some(defs) = read_bank(self.alloc)? else {
             return Ok(None);
         };
-        let mut areas = Areas::open(self.alloc, &defs, Pool::new(self.alloc, 10)?)?;
-        let mut log = Vec::new(self.alloc);
-        for items in &self.log {
-            if log.len() >= self.sealed {
-                break;
-            }
-            if !all_fit(items.as_slice()) {
-                return Ok(None);
-            }
-            match apply(&mut areas, &defs, items, log.len() as u64) {
-                Ok(()) => {}
-                Err(ApplyFault::Memory) => return Err(AllocError.into()),
-                Err(_) => return Ok(None),
-            }
-            log.push(items.clone()?)?;
+        if self.bound == 0 {
+            return Ok(None);
         }
-        Ok(Some(Bench {
-            alloc: self.alloc,
-            defs,
-            areas,
-            site,
-            sealed: log.len(),
-            log,
-        }))
+        opened(self.alloc, defs, site, self.bound, self.checked)
     }
 
     /// What an anchor shows. None where the site failed, or the anchor is damaged.
@@ -244,50 +264,63 @@ impl Bench {
         Ok(list)
     }
 
-    /// A commit: staged, published, and an entry with the items stands.
+    /// Stages the changes of a commit. None where they are no customers or notes.
+    #[tactic(auto, using(crate::proofs::BankLemmas::may_stage))]
+    fn stage(&mut self, changes: &[Change]) -> Result<Option<List<Item>>, AreaFault>
+        requires { HasBank self.old.defs self.old.areas.places }
+        ensures bank { HasBank self.new.defs self.new.areas.places }
+        ensures flagged { IfOk result (λ found. IfSome found (AreFlagged self.new.areas.imaged)) }
+        ensures order { IfOk result (λ found. IfSome found (λ items. is_ascending items ≡ true)) }
+    {
+        let inserts = self.inserts(changes)?;
+        let changed = self.changed(changes)?;
+        if !have_customers(changed.as_slice()) || !are_notes(inserts.as_slice()) {
+            return Ok(None);
+        }
+        let items = self.areas.stage(&mut self.site, &changed, &inserts)?;
+        Ok(Some(items))
+    }
+
+    /// A commit: staged, an entry with the items stands, published.
     fn commit(&mut self, changes: &[Change], came: &Came) -> Result<Ended, AllocError>
         requires { HasBank self.old.defs self.old.areas.places }
         ensures { HasBank self.new.defs self.new.areas.places }
     {
-        let inserts = self.inserts(changes)?;
-        let changed = match self.changed(changes) {
-            Ok(changed) => changed,
-            Err(fault) => return ended_by(fault, came),
-        };
-        if !have_customers(changed.as_slice()) || !are_notes(inserts.as_slice()) {
-            return Ok(Ended::Otherwise);
-        }
-        self.stage(&changed, &inserts, came)
-    }
-
-    /// Stages changed anchors and inserts, and publishes them.
-    #[tactic(auto, using(crate::proofs::BankLemmas::may_stage))]
-    fn stage(
-        &mut self,
-        changed: &List<AnchorChange>,
-        inserts: &List<SeqInsert>,
-        came: &Came,
-    ) -> Result<Ended, AllocError>
-        requires customers { AllByRecursion HasCustomers changed.now }
-        requires notes { AllByRecursion IsNote inserts.now }
-        requires bank { HasBank self.old.defs self.old.areas.places }
-        ensures { HasBank self.new.defs self.new.areas.places }
-    {
-        match self.areas.stage(&mut self.site, changed, inserts) {
-            Ok(items) => self.enter(items, came),
+        match self.stage(changes) {
+            Ok(Some(items)) => self.enter(items, came),
+            Ok(None) => Ok(Ended::Otherwise),
             Err(fault) => ended_by(fault, came),
         }
     }
 
-    /// What is staged is published, with an entry of these items.
+    /// Changes are staged, and dropped.
+    fn drops(&mut self, changes: &[Change]) -> Result<Ended, AllocError>
+        requires { HasBank self.old.defs self.old.areas.places }
+        ensures { HasBank self.new.defs self.new.areas.places }
+    {
+        match self.stage(changes) {
+            Ok(found) => {
+                self.areas.drop_staged();
+                Ok(well_if(found.is_some()))
+            }
+            Err(fault) => ended_by(fault, &Came::Some),
+        }
+    }
+
+    /// An entry of these items stands, and what is staged is published.
     fn enter(&mut self, items: List<Item>, came: &Came) -> Result<Ended, AllocError>
         requires flagged { AreFlagged self.old.areas.imaged items }
+        requires order { is_ascending items ≡ true }
         requires bank { HasBank self.old.defs self.old.areas.places }
         ensures { HasBank self.new.defs self.new.areas.places }
     {
+        if !all_fit(items.as_slice()) || items.len() >= 1 << 32 {
+            return Ok(Ended::Otherwise);
+        }
         let ended = well_if(are_wanted(items.as_slice(), came));
-        self.areas.publish(&items, self.log.len() as u64);
-        self.log.push(items)?;
+        let entry = entry_of(self.alloc, items);
+        let place = self.log.append(&entry)?;
+        self.areas.publish(&entry.items, place);
         Ok(ended)
     }
 
@@ -317,11 +350,12 @@ impl Bench {
     {
         match step {
             Step::Commit(changes, came) => Ok(self.commit(changes, came)?),
+            Step::Drops(changes) => Ok(self.drops(changes)?),
             Step::Purge(set, n, came) => Ok(self.purge(*set, *n, came)?),
-            Step::Seal => {
-                self.sealed = self.log.len();
-                Ok(Ended::Well)
-            }
+            Step::Seal => Ok(self.seal()),
+            Step::Mark => Ok(self.mark()),
+            Step::Owes(owed) => Ok(self.owes(*owed)),
+            Step::Sync => Ok(self.sync()),
             Step::Write => Ok(self.write()),
             Step::WriteAll => Ok(self.write_all()),
             Step::Restart => self.restart(),
@@ -334,12 +368,62 @@ impl Bench {
         }
     }
 
+    /// All entries are sealed, as one group.
+    fn seal(&mut self) -> Ended
+        requires { HasBank self.old.defs self.old.areas.places }
+        ensures { HasBank self.new.defs self.new.areas.places }
+    {
+        match self.log.seal(&mut self.site, 1000) {
+            Ok(count) => well_if(count > 0),
+            Err(_) => Ended::Failed,
+        }
+    }
+
+    /// A checkpoint begins.
+    fn mark(&mut self) -> Ended
+        requires { HasBank self.old.defs self.old.areas.places }
+        ensures { HasBank self.new.defs self.new.areas.places }
+    {
+        if self.log.sealed() != self.log.count() {
+            return Ended::Otherwise;
+        }
+        self.areas.mark();
+        self.mark = self.log.sealed();
+        Ended::Well
+    }
+
+    /// What the checkpoint is owed is looked at, and written where it may be.
+    fn owes(&mut self, wanted: Owed) -> Ended
+        requires { HasBank self.old.defs self.old.areas.places }
+        ensures { HasBank self.new.defs self.new.areas.places }
+    {
+        let sealed = self.log.sealed();
+        match self.areas.write_owed(&mut self.site, self.mark, sealed) {
+            Ok(owed) => well_if(owed == wanted),
+            Err(_) => Ended::Failed,
+        }
+    }
+
+    /// The areas that were written to are synced.
+    fn sync(&mut self) -> Ended
+        requires { HasBank self.old.defs self.old.areas.places }
+        ensures { HasBank self.new.defs self.new.areas.places }
+    {
+        match self.areas.sync_written(&mut self.site) {
+            Ok(()) => {
+                self.checked = self.mark;
+                Ended::Well
+            }
+            Err(_) => Ended::Failed,
+        }
+    }
+
     /// The oldest sealed interval is written.
     fn write(&mut self) -> Ended
         requires { HasBank self.old.defs self.old.areas.places }
         ensures { HasBank self.new.defs self.new.areas.places }
     {
-        match self.areas.write_oldest(&mut self.site, self.sealed as u64) {
+        match self.areas.write_oldest(&mut self.site, self.log.sealed()) {
             Ok(is_there) => well_if(is_there),
             Err(_) => Ended::Failed,
         }
@@ -350,7 +434,7 @@ impl Bench {
         requires { HasBank self.old.defs self.old.areas.places }
         ensures { HasBank self.new.defs self.new.areas.places }
     {
-        if self.sealed != self.log.len() {
+        if self.log.sealed() != self.log.count() {
             return Ended::Otherwise;
         }
         match self.areas.write_all(&mut self.site) {
@@ -373,7 +457,7 @@ impl Bench {
         }
     }
 
-    /// The areas are opened anew over the same site.
+    /// The log and the areas are opened anew over the same site.
     fn restart(&mut self) -> Result<Ended, Fail>
         requires { HasBank self.old.defs self.old.areas.places }
         ensures { HasBank self.new.defs self.new.areas.places }

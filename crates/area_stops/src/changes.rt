@@ -203,7 +203,7 @@ pub(crate) fn are_notes(inserts: &[SeqInsert]) -> bool
     true
 }
 
-/// Whether an image is of an area, and not too far behind.
+/// Whether an image is of an area, and not too far behind; whether a range has some bytes.
 fn fits(item: &Item) -> bool
     ensures { IsTrue result → FitsBank item.now }
 {
@@ -211,7 +211,8 @@ fn fits(item: &Item) -> bool
         Item::Image { set, ci, bytes } => {
             *set >= 3 && *set <= 4 && *ci < 1 << 40 && bytes.len() == 512
         }
-        Item::Segment { .. } | Item::Range { .. } => true,
+        Item::Segment { .. } => false,
+        Item::Range { bytes, .. } => !bytes.is_empty() && bytes.len() <= 512,
     }
 }
 

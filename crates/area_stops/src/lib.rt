@@ -9,6 +9,8 @@ mod bench;
 #[cfg(test)]
 mod changes;
 #[cfg(test)]
+mod logging;
+#[cfg(test)]
 mod rows;
 #[cfg(test)]
 mod stops;

@@ -4,23 +4,30 @@ ghost use Rattle.std.specs.Prelude.{◌≤◌};
 
 use crate::bench::Came::{Full, Items};
 use crate::bench::Named::{Image, Range};
-use crate::bench::Step::{Commit, Ends, Length, Purge, Restart, Seal, Shows, Write, WriteAll};
+use crate::bench::Step::{
+    Commit, Drops, Ends, Length, Mark, Purge, Restart, Seal, Shows, Write, WriteAll,
+};
 use crate::bench::{Bench, Came, Ended, Step};
 use crate::changes::Change::{Add, Drop, Note, Rename};
 use fp_site::MemorySite;
 use std::alloc::Global;
 use std::test::Fail;
 
-/// Runs steps over formatted areas. The first that didn't end well, and what the site has of both areas.
-fn first_other(alloc: Global, bound: u32, steps: &[Step]) -> Result<(Option<usize>, Vec<u8>), Fail>
+/// Runs steps over areas that are formatted over a site. The first that didn't end well, or how many there are where the site
+/// failed before; and what the site has of both areas.
+fn first_other(
+    alloc: Global,
+    site: MemorySite,
+    bound: u32,
+    steps: &[Step],
+) -> Result<(Option<usize>, Vec<u8>), Fail>
     requires { 1 ≤ bound }
 {
-    let site = MemorySite::new(alloc, &[])?;
     let Some(mut bench) = Bench::formatted(alloc, site, bound)? else {
         return Ok((Some(steps.len()), Vec::new(alloc)));
     };
     for (place, step) in steps.iter().enumerate() {
-        if bench.step(step)? != Ended::Well {
+        if !matches!(bench.step(step)?, Ended::Well) {
             return Ok((Some(place), Vec::new(alloc)));
         }
     }
@@ -30,8 +37,8 @@ fn first_other(alloc: Global, bound: u32, steps: &[Step]) -> Result<(Option<usiz
 }
 
 /// Twenty-one customers of one anchor, of which ten fit into its base interval, and ten into its unit's overflow interval.
-/// The last one takes an interval that is new in the area, and the area had eight.
-static CUSTOMERS: [Step; 26] = [
+/// The last one takes an interval that is new in the area, and the area had eight. Nothing is written before a restart.
+static CUSTOMERS: [Step; 30] = [
     Commit(&[Add(6, b"C001", b"A")], Items(&[Image(4, 4)])),
     Commit(&[Add(6, b"C009", b"B")], Came::Some),
     Commit(&[Add(6, b"C012", b"C")], Came::Some),
@@ -54,25 +61,31 @@ static CUSTOMERS: [Step; 26] = [
     Commit(&[Add(6, b"C144", b"T")], Came::Some),
     Length(4, 4096),
     Commit(&[Add(6, b"C155", b"U")], Came::Some),
+    Shows(6, ALL),
     Seal,
+    Restart,
+    Length(4, 4096),
+    Shows(6, ALL),
     WriteAll,
     Length(4, 4608),
-    Shows(
-        6,
-        b"C001A;C009B;C012C;C023D;C034E;C045F;C056G;C067H;C070I;C078J;C081K;C089L;C092M;C100N;C108O;C111P;C119Q;C122R;C133S;C144T;C155U;",
-    ),
+    Shows(6, ALL),
 ];
 
+/// What the anchor has then.
+const ALL: &[u8] =
+    b"C001A;C009B;C012C;C023D;C034E;C045F;C056G;C067H;C070I;C078J;C081K;C089L;C092M;C100N;C108O;C111P;C119Q;C122R;C133S;C144T;C155U;";
+
 /// A part that keeps four notes: the fifth is too many until the two oldest go.
-static NOTES: [Step; 17] = [
+static NOTES: [Step; 24] = [
     Commit(&[Add(6, b"C001", b"ANN")], Came::Some),
-    Commit(&[Note(6, b"C001", b"N1")], Came::Some),
-    Commit(
-        &[Note(6, b"C001", b"N2"), Note(6, b"C001", b"N3")],
-        Came::Some,
-    ),
     Seal,
     Write,
+    Restart,
+    Commit(&[Note(6, b"C001", b"N1")], Came::Some),
+    Commit(&[Note(6, b"C001", b"N2")], Came::Some),
+    Seal,
+    Write,
+    Commit(&[Note(6, b"C001", b"N3")], Came::Some),
     Commit(&[Note(6, b"C001", b"N4")], Came::Some),
     Commit(&[Note(6, b"C001", b"N5")], Full(4, 1, 5, 1)),
     Shows(6, b"C001ANN N4 N3 N2 N1;"),
@@ -83,21 +96,32 @@ static NOTES: [Step; 17] = [
     Ends(4, 3, 6),
     Ends(3, 1, 1),
     Seal,
+    Restart,
+    Shows(6, b"C001ANN N6 N4 N3;"),
+    Ends(4, 3, 6),
     WriteAll,
     Shows(6, b"C001ANN N6 N4 N3;"),
 ];
 
-/// Two customers of two areas in one commit; a customer that goes; a root that is inserted anew has no notes.
-static MIXED: [Step; 9] = [
+/// Two customers of two areas in one commit; changes that are dropped; two notes in one commit; a customer that goes; a
+/// root that is inserted anew has no notes.
+static MIXED: [Step; 12] = [
     Commit(
         &[Add(6, b"C001", b"ANN"), Add(0, b"C003", b"BOB")],
         Items(&[Image(3, 1), Image(4, 4)]),
     ),
+    Drops(&[Add(6, b"C009", b"EVE"), Rename(0, b"C003", b"EVE")]),
+    Shows(0, b"C003BOB;"),
     Commit(
-        &[Note(6, b"C001", b"N1"), Rename(0, b"C003", b"BEN")],
+        &[
+            Note(6, b"C001", b"N1"),
+            Note(6, b"C001", b"N2"),
+            Rename(0, b"C003", b"BEN"),
+        ],
         Came::Some,
     ),
     Shows(0, b"C003BEN;"),
+    Shows(6, b"C001ANN N2 N1;"),
     Commit(&[Drop(6, b"C001")], Came::Some),
     Shows(6, b""),
     Commit(&[Add(6, b"C001", b"ANN")], Came::Some),
@@ -107,8 +131,9 @@ static MIXED: [Step; 9] = [
 ];
 
 /// A name that changes behind a restart: first an image of the interval, then the two bytes in which the names differ. The
-/// segment stands at place 64: the element at 32, with 4 bytes of its own, two pointers and a serial before it.
-static IN_PLACE: [Step; 8] = [
+/// segment stands at place 64: the element at 32, with 4 bytes of its own, two pointers and a serial before it. Behind a
+/// mark there is an image again.
+static IN_PLACE: [Step; 13] = [
     Commit(&[Add(6, b"C001", b"ANN")], Items(&[Image(4, 4)])),
     Seal,
     Restart,
@@ -119,7 +144,15 @@ static IN_PLACE: [Step; 8] = [
     ),
     Commit(&[Rename(6, b"C001", b"BOB")], Items(&[])),
     Seal,
+    Mark,
+    Commit(&[Rename(6, b"C001", b"BEN")], Items(&[Image(4, 4)])),
+    Commit(
+        &[Rename(6, b"C001", b"BON")],
+        Items(&[Range(4, 4, 69, b"O")]),
+    ),
+    Seal,
     WriteAll,
+    Shows(6, b"C001BON;"),
 ];
 
 #[test]
@@ -128,7 +161,8 @@ fn rows_come_out_as_wanted(rt: HostRuntime) -> Result<(), Fail> {
         .iter()
         .enumerate()
     {
-        let (other, bytes) = first_other(rt.alloc(), 10, steps)?;
+        let site = MemorySite::new(rt.alloc(), &[])?;
+        let (other, bytes) = first_other(rt.alloc(), site, 10, steps)?;
         assert!(rt; other.is_none(), "row {row}, step {}", other.unwrap_or(0));
         assert!(rt; !bytes.is_empty(), "row {row}");
     }
@@ -141,9 +175,37 @@ fn a_pool_of_one_makes_the_same_bytes(rt: HostRuntime) -> Result<(), Fail> {
         .iter()
         .enumerate()
     {
-        let (_, small) = first_other(rt.alloc(), 1, steps)?;
-        let (other, large) = first_other(rt.alloc(), 1000, steps)?;
+        let site = MemorySite::new(rt.alloc(), &[])?;
+        let (_, small) = first_other(rt.alloc(), site, 1, steps)?;
+        let site = MemorySite::new(rt.alloc(), &[])?;
+        let (other, large) = first_other(rt.alloc(), site, 1000, steps)?;
         assert!(rt; other.is_none() && small == large, "row {row}");
     }
+    Ok(())
+}
+
+/// The place of the commit in which the area grows.
+const GROWTH: usize = 21;
+
+/// It asks whether the data set may grow, and nothing else: all that it reads is at hand. So there is just one number of
+/// calls behind which the site stops in it.
+#[test]
+fn a_commit_in_which_an_area_grows_asks_the_site_once(rt: HostRuntime) -> Result<(), Fail> {
+    let mut stopped = 0u64;
+    for calls in 0..100u64 {
+        let site = MemorySite::stopping(rt.alloc(), calls)?;
+        match first_other(rt.alloc(), site, 10, &CUSTOMERS[..GROWTH + 1])? {
+            (Some(step), _) => {
+                if step == GROWTH {
+                    stopped = stopped.saturating_add(1);
+                }
+            }
+            (None, _) => {
+                assert!(rt; stopped == 1, "stopped {stopped} times");
+                return Ok(());
+            }
+        }
+    }
+    assert!(rt; false, "the run makes more calls");
     Ok(())
 }

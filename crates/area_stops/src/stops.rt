@@ -2,15 +2,19 @@
 
 ghost use Rattle.area_stops.specs.Bank.{HasBank};
 
-use crate::bench::Step::{Commit, Purge, Seal, Shows, Write, WriteAll};
+use crate::bench::Step::{Commit, Mark, Owes, Purge, Seal, Shows, Sync, Write, WriteAll};
 use crate::bench::{Bench, Came, Ended, Step};
 use crate::changes::Change::{Add, Note, Rename};
+use ci_pool::Owed;
 use fp_site::MemorySite;
 use std::alloc::Global;
 use std::test::Fail;
 
-/// Commits in both areas, seals and writes between them, and a Purge.
-static STEPS: [Step; 15] = [
+/// Commits in both areas, seals and writes between them, a checkpoint in steps with a commit between these, and a Purge.
+///
+/// At the mark four intervals owe changes of the four entries: the anchors' base intervals, and of the second area control
+/// and the interval of the notes. The commit changes one of them again, so that it waits for a seal.
+static STEPS: [Step; 25] = [
     Commit(
         &[Add(6, b"C001", b"ANN"), Add(0, b"C003", b"BOB")],
         Came::Some,
@@ -25,23 +29,35 @@ static STEPS: [Step; 15] = [
         Came::Some,
     ),
     Seal,
-    Write,
-    Write,
+    Mark,
+    Owes(Owed::Write(3, 1)),
+    Commit(&[Rename(6, b"C001", b"EVA")], Came::Some),
+    Owes(Owed::Write(4, 0)),
+    Owes(Owed::Write(4, 7)),
+    Owes(Owed::Unsealed),
+    Seal,
+    Owes(Owed::Write(4, 4)),
+    Owes(Owed::None),
+    Sync,
     Purge(4, 1, Came::Some),
-    Shows(6, b"C001EVE N2;"),
+    Shows(6, b"C001EVA N2;"),
+    Seal,
+    Commit(&[Rename(0, b"C003", b"BOB")], Came::Some),
     Seal,
     WriteAll,
-    Shows(0, b"C003BEN;"),
+    Shows(0, b"C003BOB;"),
 ];
 
 /// What the anchors 6 and 0 have behind so many entries.
-static STATES: [(&[u8], &[u8]); 6] = [
+static STATES: [(&[u8], &[u8]); 8] = [
     (b"", b""),
     (b"C001ANN;", b"C003BOB;"),
     (b"C001ANN N1;", b"C003BOB;"),
     (b"C001EVE N1;", b"C003BOB;"),
     (b"C001EVE N2 N1;", b"C003BEN;"),
-    (b"C001EVE N2;", b"C003BEN;"),
+    (b"C001EVA N2 N1;", b"C003BEN;"),
+    (b"C001EVA N2;", b"C003BEN;"),
+    (b"C001EVA N2;", b"C003BOB;"),
 ];
 
 /// Whether an anchor shows this. False where the site failed.
@@ -60,21 +76,24 @@ fn shows_its_state(bench: &mut Bench) -> Result<bool, Fail>
     requires { HasBank bench.old.defs bench.old.areas.places }
     ensures { HasBank bench.new.defs bench.new.areas.places }
 {
-    let sealed = bench.sealed;
-    if sealed >= STATES.len() {
+    let sealed = bench.log.sealed();
+    if sealed >= STATES.len() as u64 {
         return Ok(false);
     }
-    let (sixth, first) = STATES[sealed];
+    let (sixth, first) = STATES[sealed as usize];
     Ok(shows(bench, 6, sixth)? && shows(bench, 0, first)?)
 }
 
-/// Whether a restart from each snapshot of the site shows the databases of the sealed entries.
+/// Whether a restart from each snapshot of the site finds the sealed entries, or all of them where a seal was cut short,
+/// and shows the databases behind those that it finds.
 fn restarts(alloc: Global, bench: &Bench) -> Result<bool, Fail> {
     for choice in 0..8u64 {
         let site = MemorySite::from_snapshot(alloc, bench.site.snapshot_as(choice)?, &[])?;
         match bench.restarted(site)? {
             Some(mut again) => {
-                if !shows_its_state(&mut again)? {
+                let found = again.log.sealed();
+                let is_whole = found == bench.log.sealed() || found == bench.log.count();
+                if !is_whole || !shows_its_state(&mut again)? {
                     return Ok(false);
                 }
             }
@@ -106,31 +125,45 @@ fn stopped(alloc: Global, site: MemorySite) -> Result<Run, Fail> {
             Ended::Otherwise => return Ok(Run::Otherwise(place)),
         }
     }
-    if restarts(alloc, &bench)? {
+    restarted(alloc, &bench)
+}
+
+/// How a run ended from which restarts were made.
+fn restarted(alloc: Global, bench: &Bench) -> Result<Run, Fail> {
+    if restarts(alloc, bench)? {
         Ok(Run::Well(bench.site.faults()))
     } else {
         Ok(Run::Otherwise(STEPS.len()))
     }
 }
 
-/// Runs the steps; one that the site fails in is done once more.
+/// Does a step; one that the site fails in is done once more, but for a seal.
+fn step_again(bench: &mut Bench, step: &Step) -> Result<Ended, Fail>
+    requires { HasBank bench.old.defs bench.old.areas.places }
+    ensures { HasBank bench.new.defs bench.new.areas.places }
+{
+    let ended = bench.step(step)?;
+    if matches!(ended, Ended::Failed) && !matches!(step, Seal) {
+        return bench.step(step);
+    }
+    Ok(ended)
+}
+
+/// Runs the steps; one that the site fails in is done once more. Behind a seal that fails only a restart comes.
 fn with_a_fault(alloc: Global, site: MemorySite) -> Result<Run, Fail> {
     let Some(mut bench) = Bench::formatted(alloc, site, 2)? else {
         return Ok(Run::Unformatted);
     };
     for (place, step) in STEPS.iter().enumerate() {
-        let mut ended = bench.step(step)?;
-        if ended == Ended::Failed {
-            ended = bench.step(step)?;
-        }
-        if ended != Ended::Well {
-            return Ok(Run::Otherwise(place));
+        match step_again(&mut bench, step)? {
+            Ended::Well => {}
+            Ended::Failed if matches!(step, Seal) => return restarted(alloc, &bench),
+            _ => return Ok(Run::Otherwise(place)),
         }
     }
     // The call that fails may be one of those that look.
-    let shows = shows_its_state(&mut bench)? || shows_its_state(&mut bench)?;
-    if shows && restarts(alloc, &bench)? {
-        Ok(Run::Well(bench.site.faults()))
+    if shows_its_state(&mut bench)? || shows_its_state(&mut bench)? {
+        restarted(alloc, &bench)
     } else {
         Ok(Run::Otherwise(STEPS.len()))
     }

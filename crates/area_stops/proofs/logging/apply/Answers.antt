@@ -1,5 +1,5 @@
 use Rattle.area_stops.proofs.BankLemmas.{all_images}
-use Rattle.area_stops.proofs.bench.apply.Goals as goal
+use Rattle.area_stops.proofs.logging.apply.Goals as goal
 
 pub apply-requires-clause-fit : goal.apply-requires-clause-fit
 apply-requires-clause-fit c =
