@@ -2,7 +2,7 @@
 
 ghost use Rattle.std.specs.Prelude.{Err, IsErrOf, ◌≡◌, ◌≢◌, ◌+◌, ◌-◌, ◌≤◌, ◌<◌, ℕ, Ok, Some, None, true, false, IsSome, IfOk, OnOk, OnErr, IsTrue, slice_get, [], length, is_some};
 ghost use Rattle.fp_site.specs.Site.{Counts, ReadsNothing};
-ghost use Rattle.fp_model.specs.State.{first_area_set, roots_at};
+ghost use Rattle.fp_model.specs.State.{roots_at};
 ghost use Rattle.fp_model.specs.WellFormed.{AreDefs};
 ghost use Rattle.ci_space.specs.Calls.{Rose};
 ghost use Rattle.ci_pool.specs.Held.{SameAtHand, pending_at, IsOldestSealed, NoneSealed, NoneOwes, IsFirstOwed, AreUnsealed};
