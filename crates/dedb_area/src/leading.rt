@@ -8,12 +8,12 @@ ghost use Rattle.fp_model.specs.declared.definitions.Defs.{Defs as DefsOf};
 ghost use Rattle.fp_model.specs.declared.log.Entry.{Entry};
 ghost use Rattle.area_redo.specs.Redo.{AreaBytes, redone};
 ghost use Rattle.area_redo.specs.Standing.{Way, behind};
-ghost use Rattle.area_redo.specs.Steps.{longer, next_place};
+ghost use Rattle.area_redo.specs.Steps.{longer, next_place, with_mark, with_sealed};
 ghost use Rattle.area_states.specs.Databases.{AreFor, last_of};
 ghost use Rattle.area_states.specs.Places.{places_of};
 ghost use Rattle.area_staging.specs.Changing.{AreStagedBy};
 ghost use Rattle.dedb_area.specs.Appending.{IsPublished, KeepsStaged, MayEnter};
-ghost use Rattle.dedb_area.specs.Keeping.{KeepsAreas};
+ghost use Rattle.dedb_area.specs.Keeping.{IsMarked, KeepsAreas};
 ghost use Rattle.dedb_area.specs.Leading.{DatabasesStand};
 ghost use Rattle.dedb_area.specs.Opening.{AreFormatted, AreOpened, bytes_in, no_entries};
 ghost use Rattle.dedb_area.specs.Standing.{Holding};
@@ -59,4 +59,22 @@ pub fn kept_areas_keep_the_databases<S: Site>(old: &S, new: &S)
         → DatabasesStand way bytes states (S.disk old.now) before
         → KeepsAreas way bytes (S.disk old.now) (S.disk new.now) before after
         → DatabasesStand way bytes states (S.disk new.now) after }
+{}
+
+/// Where the oldest entries that weren't sealed are, the databases stand behind the others.
+pub fn sealed_entries_leave_the_others<S: Site>(site: &S)
+    ensures { (way : Way) (bytes : AreaBytes) (states : List Db) (areas : Holding) (n : ℕ)
+        → DatabasesStand way bytes states (S.disk site.now) areas
+        → n ≤ length way.unsealed
+        → DatabasesStand (with_sealed n way) (behind (take n way.unsealed) bytes) (drop n states) (S.disk site.now)
+        areas }
+{}
+
+/// Where every entry is sealed, the databases stand behind a mark at their end.
+pub fn a_mark_keeps_the_databases<S: Site>(site: &S)
+    ensures { (way : Way) (bytes : AreaBytes) (states : List Db) (before after : Holding)
+        → DatabasesStand way bytes states (S.disk site.now) before
+        → way.unsealed ≡ []
+        → IsMarked before after
+        → DatabasesStand (with_mark way) bytes states (S.disk site.now) after }
 {}

@@ -24,7 +24,8 @@ pub use areas::Areas;
 pub use fault::AreaFault;
 pub use formatting::formatted_areas_stand;
 pub use leading::{
-    an_entry_leads_on, formatted_databases_stand, kept_areas_keep_the_databases,
+    a_mark_keeps_the_databases, an_entry_leads_on, formatted_databases_stand,
+    kept_areas_keep_the_databases, sealed_entries_leave_the_others,
     the_newest_bytes_stand_for_the_newest_databases,
 };
 pub use marking::a_mark_keeps_the_areas;
