@@ -7,3 +7,4 @@ pub mod Orders
 pub mod Steps
 pub mod Stages
 pub mod AtHand
+pub mod Least

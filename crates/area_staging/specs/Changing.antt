@@ -10,7 +10,7 @@ use Rattle.held_intervals.specs.Holding.{Changes}
 use Rattle.ci_pool.specs.Held.{Held, HasSize, IsClean, newest_in, pending_at, staged_at}
 use Rattle.area_redo.specs.Redo.{AreaBytes, ComesWhole, names, redone_at}
 use Rattle.area_staging.specs.declared.extent.Extent.{Extent}
-use Rattle.area_staging.specs.Items.{IsItemOf}
+use Rattle.area_staging.specs.Items.{DiffersAtEnds, IsItemOf}
 use Rattle.area_staging.specs.Staging.{IsToldPool}
 
 -- ---- what stays
@@ -49,6 +49,13 @@ abbrev pub IsItemFor : Bool → Extent → ℕ → List ℕ → List ℕ → Opt
 IsItemFor imaged area ci old new None = (ci < area.count) × (new ≡ old)
 IsItemFor imaged area ci old new (Some item) =
     IsItemOf (imaged && nat_lt ci area.count) area.set ci old new item × (ci < area.count → new ≢ old)
+
+-- The least item of an interval of an area, of which `count` stood before with these bytes: one that stood has an image
+-- only where it has no item since the mark, and a range begins and ends with a byte that differs.
+abbrev pub IsLeastOf : ℕ → (ℕ → Bool) → (ℕ → List ℕ) → Item → Type 0
+IsLeastOf count imaged bytes (Segment msdb key new) = ⊤
+IsLeastOf count imaged bytes (Image set ci new) = ci < count → imaged ci ≡ false
+IsLeastOf count imaged bytes (Range set ci at new) = DiffersAtEnds (bytes ci) at new
 
 -- an item of an interval of this data set, within its size, that ends at or before byte 2^62
 abbrev pub IsFitFor : ℕ → ℕ → Item → Type 0

@@ -1,5 +1,5 @@
 -- The item of a changed interval, and which intervals have one since the mark.
-use Rattle.std.specs.Prelude.{◌≡◌, ◌≢◌, ℕ, ◌-◌, ◌<◌, ◌≤◌, Bool, true, false, nat_lt, if◌then◌else◌, List, [], ◌∷◌, length, get_or, take, drop, slice_get, Option, Some, None, unwrap_or}
+use Rattle.std.specs.Prelude.{◌≡◌, ◌≢◌, ℕ, ◌+◌, ◌-◌, ◌<◌, ◌≤◌, Bool, true, false, nat_lt, if◌then◌else◌, List, [], ◌∷◌, length, get_or, take, drop, slice_get, Option, Some, None, unwrap_or}
 use Rattle.fp_model.specs.State.{first_area_set}
 use Rattle.fp_model.specs.declared.log.Item.{Item}
 use Rattle.fp_model.specs.declared.log.Item.TheVariants.{Image, Range}
@@ -43,6 +43,12 @@ pub record IsRangeOf (set ci : ℕ) (old new : List ℕ) (item : Item) : Type 0 
 abbrev pub IsItemOf : Bool → ℕ → ℕ → List ℕ → List ℕ → Item → Type 0
 IsItemOf false set ci old new item = item ≡ Image set ci new
 IsItemOf true set ci old new item = IsRangeOf set ci old new item
+
+-- The bytes of a range that begins at this place: the first and the last of them differ from those that stood there.
+pub record DiffersAtEnds (old : List ℕ) (at : ℕ) (new : List ℕ) : Type 0 where
+  pub some : 0 < length new
+  pub first : get_or new 0 0 ≢ get_or old at 0
+  pub last : get_or new (length new - 1) 0 ≢ get_or old (at + (length new - 1)) 0
 
 -- there is one exactly where the bytes are other
 abbrev pub IsChange : Bool → ℕ → ℕ → List ℕ → List ℕ → Option Item → Type 0

@@ -10,7 +10,7 @@ ghost use Rattle.ci_space.specs.Calls.{Rose};
 ghost use Rattle.ci_space.specs.Interval.{is_size};
 ghost use Rattle.ci_pool.specs.Held.{HasSize, IsClean, SameAtHand, held_at, newest_in, staged_at};
 ghost use Rattle.ci_pool.specs.declared.fault.PoolFault.TheVariants as fault;
-ghost use Rattle.area_staging.specs.Changing.{AreWithin, IsFitFor, IsFitItem, IsItemFor, IsOneStaged, MakeChanges, Shows, Stages, StagesItems};
+ghost use Rattle.area_staging.specs.Changing.{AreWithin, IsFitFor, IsFitItem, IsItemFor, IsLeastOf, IsOneStaged, MakeChanges, Shows, Stages, StagesItems};
 ghost use Rattle.area_staging.specs.Flags.{AreFlagged};
 ghost use Rattle.area_staging.specs.Items.{HasFlag, is_imaged, items_in};
 ghost use Rattle.area_staging.specs.Looking.{LooksAt};
@@ -163,6 +163,11 @@ pub fn stage_changed<T: Site>(
         (get nat_cmp changed)) }
     ensures staged { T.told site.old → (bytes : ℕ → ListOf ℕ) → Shows area (T.disk site.old).contents pool.old bytes
         → IfOk result (λ items. StagesItems area.set items bytes pool.old pool.new) }
+
+    // One that stood has an image only where it has no item since the mark, and a range begins and ends with a byte that
+    // differs.
+    ensures least { T.told site.old → (bytes : ℕ → ListOf ℕ) → Shows area (T.disk site.old).contents pool.old bytes
+        → IfOk result (AllByRecursion (IsLeastOf area.count (is_imaged imaged.old.items area.set) bytes)) }
 
     // Each fits, in their order, and each interval has a flag.
     ensures fit { IfOk result (AllByRecursion (IsFitFor area.set area.size)) }

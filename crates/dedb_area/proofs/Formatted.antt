@@ -4,8 +4,10 @@ use Rattle.std.specs.Prelude.{◌-◌, nat_lt, slice_get, Some, None, Result, Ok
 use Rattle.std.proofs.lemmas.Bool.{cases_Bool, cases_eq}
 use Rattle.std.proofs.lemmas.Bool.Decides.{nat_tests}
 use Rattle.std.proofs.Math.Nat.{mul-le-mul_left}
-use Rattle.fp_site.specs.Disk.{Disk, Tears, Torn, Elapses, Leaves, IsLawful, IsDurable, written}
+use Rattle.fp_site.specs.Disk.{Differs, Disk, Tears, Torn, Elapses, Leaves, IsLawful, IsDurable, written}
+use Rattle.fp_site.proofs.Frames.{Anyhow, only_in_of}
 use Rattle.fp_site.proofs.Images.{durable_aside}
+use Rattle.fp_site.proofs.Runs.{elapses_weaker}
 use Rattle.fp_site.proofs.Torns.{torn_none}
 use Rattle.ci_space.specs.declared.intervals.Shape.{Shape}
 use Rattle.ci_space.specs.Interval.{is_size}
@@ -16,6 +18,7 @@ use Rattle.area_states.specs.declared.place.Place.{Place}
 use Rattle.fp_model.specs.State.{first_area_set}
 use Rattle.area_states.specs.Places.{place_at, IsPlace, ArePlaces}
 use Rattle.dedb_area.specs.Formatting.{StartsAs, IsStarted, IsFormatted}
+use Rattle.dedb_area.specs.Keeping.{OnlyAreas}
 
 pub started_none : (shape : Shape) (contents : List ℕ) → IsStarted shape 0 contents
 started_none shape contents = record {
@@ -55,6 +58,17 @@ pub aside_torn : (set at count k : ℕ) (old new : Disk) → IsLawful old → Is
 aside_torn set at count k old new law law2 more leaves ne was =
     durable_aside old new set k (Torn at count) ne law law2 (λ s left. torn_none at count (s.images set))
     (leaves.contents k ne) more was
+
+-- and changes no data set but an area's,
+pub torn_areas : (set at count : ℕ) (old new : Disk) → first_area_set ≤ set → Elapses old new (Tears old set at count)
+    → Leaves set old new → OnlyAreas old new
+torn_areas set at count old new from more leaves =
+    only_in_of (λ s. first_area_set ≤ s) set old new from
+    (record {
+      now = leaves;
+      crash = elapses_weaker old new (Tears old set at count) (Differs old set Anyhow)
+          (λ s d. record { before = d.before; left = d.left; this = tt; others = d.others; sent = d.sent }) more;
+    })
 
 -- and calls on one data set, one after another, leave the others
 pub leaves_then : (set : ℕ) (a b c : Disk) → Leaves set a b → Leaves set b c → Leaves set a c

@@ -27,3 +27,4 @@ pub mod Opened
 pub mod Ones
 pub mod PurgeDatabases
 pub mod Sent
+pub mod LeadingLemmas

@@ -20,13 +20,13 @@ use Rattle.area_states.specs.declared.place.Place.{Place}
 use Rattle.area_states.specs.Databases.{state_of}
 use Rattle.area_states.specs.Places.{counted_by, layout_of, place_at}
 use Rattle.area_states.specs.States.{AreaState, HasState}
-use Rattle.area_staging.specs.Changing.{AllBefore, IsFitFor, StagesItems}
+use Rattle.area_staging.specs.Changing.{AllBefore, IsFitFor, IsLeastOf, StagesItems}
 use Rattle.area_staging.specs.Flags.{AreFlagged, IsFlagged}
-use Rattle.area_staging.specs.Items.{HasFlag}
+use Rattle.area_staging.specs.Items.{DiffersAtEnds, HasFlag}
 use Rattle.area_staging.proofs.Flags.{all_flagged}
 use Rattle.area_staging.proofs.Orders.{all_fit_before, all_join, all_later, all_then, ascends_join, before_all_fit}
 use Rattle.dedb_area.specs.Anchors.{intervals_of}
-use Rattle.dedb_area.specs.Committing.{AreStagedUpTo, HasRoomFor, IsFitItem, MakesArea, committed}
+use Rattle.dedb_area.specs.Committing.{AreStagedUpTo, HasRoomFor, IsFitItem, IsLeast, MakesArea, committed}
 use Rattle.dedb_area.specs.Standing.{IsUnstaged}
 use Rattle.dedb_area.proofs.AnchorLemmas.{within_areas}
 
@@ -261,6 +261,39 @@ pub fit_more_items : (places : List Place) (set : ℕ) (place : Place) (items mo
 fit_more_items places set place items more is all fit =
     all_join (IsFitItem places) items more all
     (all_then (IsFitFor set place.shape.ci) (IsFitItem places) more (λ item f. fit_item places set place item is f) fit)
+
+-- each is the least
+least_item : (places : List Place) (data_set : ℕ) (place : Place) (a b : ℕ → ℕ → Bool) (newest : AreaBytes) (item : Item)
+    → place_at places data_set ≡ Some place → ((s k : ℕ) → a s k ≡ b s k) → IsFitFor data_set place.shape.ci item
+    → IsLeastOf (counted_by (Some place) (newest data_set 0)) (a data_set) (newest data_set) item → IsLeast places b newest item
+least_item places data_set place a b newest (Segment msdb key new) is same fit least = tt
+least_item places data_set place a b newest (Image s ci new) is same fit least = λ lt.
+    let here : ci < counted_by (place_at places data_set) (newest data_set 0) =
+    subst (λ x. ci < counted_by (place_at places x) (newest x 0)) fit.0 lt in
+    sym (same s ci) ∙ ap (λ x. a x ci) fit.0
+    ∙ least (subst (λ o. ci < counted_by o (newest data_set 0)) is here)
+least_item places data_set place a b newest (Range s ci at new) is same fit least =
+    subst (λ x. DiffersAtEnds (newest x ci) at new) (sym fit.0) least
+
+least_items : (places : List Place) (data_set : ℕ) (place : Place) (a b : ℕ → ℕ → Bool) (newest : AreaBytes)
+    (items : List Item) → place_at places data_set ≡ Some place → ((s k : ℕ) → a s k ≡ b s k)
+    → AllByRecursion (IsFitFor data_set place.shape.ci) items
+    → AllByRecursion (IsLeastOf (counted_by (Some place) (newest data_set 0)) (a data_set) (newest data_set)) items
+    → AllByRecursion (IsLeast places b newest) items
+least_items places data_set place a b newest [] is same fit least = tt
+least_items places data_set place a b newest (item ∷ items) is same fit least = (
+  least_item places data_set place a b newest item is same fit.0 least.0,
+  least_items places data_set place a b newest items is same fit.1 least.1,
+)
+
+pub least_more_items : (places : List Place) (data_set : ℕ) (place : Place) (a b : ℕ → ℕ → Bool) (newest : AreaBytes)
+    (items more : List Item) → place_at places data_set ≡ Some place → ((s k : ℕ) → a s k ≡ b s k)
+    → AllByRecursion (IsLeast places b newest) items
+    → AllByRecursion (IsLeastOf (counted_by (Some place) (newest data_set 0)) (a data_set) (newest data_set)) more
+    → AllByRecursion (IsFitFor data_set place.shape.ci) more → AllByRecursion (IsLeast places b newest) (items ++ more)
+least_more_items places data_set place a b newest items more is same all least fit =
+    all_join (IsLeast places b newest) items more all
+    (least_items places data_set place a b newest more is same fit least)
 
 pub order_more_items : (set size : ℕ) (items more : List Item) → AllBefore set 0 items → is_ascending items ≡ true
     → is_ascending more ≡ true → AllByRecursion (IsFitFor set size) more → is_ascending (items ++ more) ≡ true

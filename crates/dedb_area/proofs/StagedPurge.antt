@@ -1,6 +1,6 @@
 -- A Purge of an area, staged.
-use Rattle.std.proofs.Common.{◌≡◌, ◌≢◌, inl, inr, ℕ, ◌<◌, ◌≤◌, ◌^◌, Bool, false, true, List, length, refl, sym, ◌∙◌, ap, subst, arith}
-use Rattle.std.specs.Prelude.{◌==◌, ◌&&◌, if◌then◌else◌, Contains, Option, Some, None, Result, Ok, Err, IfOk, OnErr, IsSome}
+use Rattle.std.proofs.Common.{◌≡◌, ◌≢◌, inl, inr, ℕ, ◌*◌, ◌<◌, ◌≤◌, ◌^◌, Bool, false, true, List, length, refl, sym, ◌∙◌, ap, subst, arith}
+use Rattle.std.specs.Prelude.{◌==◌, ◌&&◌, if◌then◌else◌, Contains, Option, Some, None, Result, Ok, Err, IfNone, IfOk, IfSome, OnErr, IsSome, is_some}
 use Rattle.std.proofs.lemmas.Bool.{cases_eq}
 use Rattle.std.proofs.lemmas.Bool.Decides.{nat_tests}
 use mathlib.Core.Path.{fun_ext}
@@ -17,6 +17,7 @@ use Rattle.area_redo.specs.Standing.{Way, Stands, MayOpen}
 use Rattle.area_states.specs.declared.place.Place.{Place}
 use Rattle.area_states.specs.Places.{counted_by, layout_of, place_at}
 use Rattle.dedb_area.specs.Anchors.{intervals_of}
+use Rattle.dedb_area.specs.Control.{AreEnds as AreEndsOf}
 use Rattle.dedb_area.specs.Appending.{StagedStand, StagesInAreas}
 use Rattle.area_staging.specs.Items.{HasFlag, IsChange, IsItemOf, is_imaged}
 use Rattle.area_staging.specs.Looking.{LooksAt}
@@ -33,6 +34,11 @@ use Rattle.dedb_area.proofs.Looks.{areas_looked}
 
 -- ---- control
 
+-- it has two ends
+two_ends : (capacity : ℕ) (control : List ℕ) → AreEndsOf capacity control → AreEnds (begin_in control) (end_in control)
+unfolding begin_in end_in
+two_ends capacity control e = record { some = e.some; ordered = e.ordered; bounded = e.bounded }
+
 -- what may be purged is control of the area
 pub control_is : (place : Place) (bytes : ℕ → List ℕ) → MayPurge place (bytes 0) → IsControl (intervals_of place bytes)
 control_is place bytes may =
@@ -44,8 +50,28 @@ control_is place bytes may =
       below = subst (λ k. 0 < k) (sym long) some;
       is_interval = subst IsInterval first may.counts.is_control.is_interval;
       is_kind = subst (λ b. kind_of b ≡ 1) first may.counts.is_control.is_kind;
-      are_ends = subst (λ b. AreEnds (begin_in b) (end_in b)) first may.are_ends;
+      are_ends = subst (λ b. AreEnds (begin_in b) (end_in b)) first (two_ends place.capacity (bytes 0) may.are_ends);
     }
+
+-- and it is
+pub may_be : (place : Place) (control : List ℕ) (count : ℕ) → IsInterval control → kind_of control ≡ 1
+    → count ≡ counted_by (Some place) control → count * place.shape.ci ≤ 2 ^ 62 → AreEndsOf place.capacity control
+    → MayPurge place control
+may_be place control count interval kind same ends are = record {
+  counts = record {
+    is_control = record { is_interval = interval; is_kind = kind };
+    ends = subst (λ n. n * place.shape.ci ≤ 2 ^ 62) same ends;
+  };
+  are_ends = are;
+}
+
+pub by_none : {X : Type 0} (o : Option X) (P : Type 0) → is_some o ≡ false → IfNone o P → P
+by_none None P e p = p
+by_none (Some x) P e p = absurd cc
+
+pub by_some : {X : Type 0} (o : Option X) (P : Type 0) → is_some o ≡ true → IfSome o (λ x. P) → P
+by_some (Some x) P e p = p
+by_some None P e p = absurd cc
 
 pub not_past : (count : ℕ) → 2 ^ 62 < count → count ≤ 2 ^ 62 → ⊥
 not_past count past within = omega (arith, past, within)

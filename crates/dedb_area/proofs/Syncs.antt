@@ -1,5 +1,5 @@
 -- Syncs of areas, one after another.
-use Rattle.std.proofs.Common.{◌≡◌, inl, inr, ℕ, ◌+◌, ◌*◌, ◌<◌, ◌≤◌, Bool, true, false, List, length, refl, sym, ◌∙◌, ap, subst, arith}
+use Rattle.std.proofs.Common.{◌≡◌, inl, inr, ℕ, ◌+◌, ◌-◌, ◌*◌, ◌<◌, ◌≤◌, Bool, true, false, List, length, refl, sym, ◌∙◌, ap, subst, arith}
 use Rattle.std.specs.Prelude.{slice_get, Some}
 use Rattle.std.proofs.lemmas.Bool.{cases_eq}
 use Rattle.std.proofs.lemmas.Option.{slice_get_cases, slice_get_within}
@@ -17,7 +17,8 @@ use Rattle.ci_pool.specs.Held.{Held, IsClean}
 use Rattle.area_states.specs.declared.place.Place.{Place}
 use Rattle.area_states.specs.Places.{layout_of}
 use Rattle.dedb_area.specs.Standing.{owed_of, AreSynced}
-use Rattle.dedb_area.specs.Keeping.{KeepsStanding, KeepsAreas, OnlyAreas, SyncsAreas}
+use Rattle.dedb_area.specs.Keeping.{AreDurable, KeepsStanding, KeepsAreas, OnlyAreas, SyncsAreas}
+use Rattle.dedb_area.proofs.AnchorLemmas.{within_areas}
 
 module _ (layout : Layout) (way : Way) (owed : Owed) (bytes : AreaBytes) where
   -- no call yet
@@ -131,6 +132,15 @@ all_synced flags after old new same these kept was number below = elim ((slice_g
     by_flag : (b : Bool) → slice_get flags number ≡ Some b → IsDurable new (first_area_set + number)
     by_flag true is = these number is
     by_flag false is = kept (first_area_set + number) (was number is)
+
+-- each area has a flag, so each is durable
+pub areas_durable : (places : List Place) (flags : List Bool) (disk : Disk) → length flags ≡ length places
+    → ((number : ℕ) → number < length flags → IsDurable disk (first_area_set + number)) → AreDurable places disk
+areas_durable places flags disk same each set place is =
+    let within = within_areas places set place is in
+    let below : set - first_area_set < length flags = omega (arith, within.1, same) in
+    let e : first_area_set + (set - first_area_set) ≡ set = omega (arith, within.0) in
+    subst (IsDurable disk) e (each (set - first_area_set) below)
 
 -- so the flags may be cleared
 pub cleared_synced : (flags after : List Bool) (old new : Disk) → length after ≡ length flags

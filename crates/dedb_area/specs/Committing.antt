@@ -1,5 +1,5 @@
 -- Changed anchors and sequential inserts of a commit, staged.
-use Rattle.std.specs.Prelude.{◌≡◌, ◌≢◌, ℕ, ◌+◌, ◌<◌, ◌≤◌, ◌||◌, Bool, true, false, List, [], ◌∷◌, length, IsSome, None, Some}
+use Rattle.std.specs.Prelude.{◌≡◌, ◌≢◌, ⊤, ℕ, ◌+◌, ◌<◌, ◌≤◌, ◌||◌, Bool, true, false, List, [], ◌∷◌, length, IsSome, None, Some}
 use Rattle.std.specs.List.{AllByRecursion, list_any}
 use Rattle.fp_model.specs.declared.calls.AnchorChange.{AnchorChange}
 use Rattle.fp_model.specs.declared.calls.SeqInsert.{SeqInsert}
@@ -22,6 +22,7 @@ use Rattle.area_states.specs.Places.{counted_by, has_anchor, layout_of, place_at
 use Rattle.area_states.specs.States.{AreaState, HasState}
 use Rattle.state_laws.specs.Parts.{FitsAnchorChange, FitsSeqInsert, changes_ascend}
 use Rattle.area_staging.specs.Changing.{AreStagedBy}
+use Rattle.area_staging.specs.Items.{DiffersAtEnds}
 use Rattle.area_staging.specs.Staging.{AllAtHand}
 use Rattle.dedb_area.specs.Anchors.{IsBegin, intervals_of}
 use Rattle.dedb_area.specs.Applying.{IsFitInterval}
@@ -125,6 +126,14 @@ abbrev pub OnlyChanges : List Place → AreaBytes → List Item → Type 0
 OnlyChanges places newest items =
     (set ci : ℕ) (place : Place) → place_at places set ≡ Some place → ci < counted_by (Some place) (newest set 0)
     → names set ci items ≡ true → redone_at set ci items (newest set ci) ≢ newest set ci
+
+-- The least item of an interval, of which these are the newest bytes: one that stood has an image only where it has no
+-- item since the mark, and a range begins and ends with a byte that differs.
+abbrev pub IsLeast : List Place → (ℕ → ℕ → Bool) → AreaBytes → Item → Type 0
+IsLeast places imaged newest (Segment msdb key new) = ⊤
+IsLeast places imaged newest (Image set ci new) =
+    ci < counted_by (place_at places set) (newest set 0) → imaged set ci ≡ false
+IsLeast places imaged newest (Range set ci at new) = DiffersAtEnds (newest set ci) at new
 
 -- The first so many areas are staged, of databases that these bytes stand for.
 pub record AreStagedUpTo (places : List Place) (n : ℕ) (imaged : ℕ → ℕ → Bool) (newest : AreaBytes)

@@ -1,5 +1,5 @@
 -- What the calls on areas keep.
-use Rattle.std.specs.Prelude.{◌≡◌, ℕ, ◌≤◌, false, ◌==◌, ◌&&◌, if◌then◌else◌, Some, None}
+use Rattle.std.specs.Prelude.{◌≡◌, ℕ, ◌≤◌, false, ◌==◌, ◌&&◌, if◌then◌else◌, List, Some, None}
 use Rattle.fp_site.specs.Disk.{Disk, IsDurable}
 use Rattle.fp_site.specs.Moments.{OnlyIn}
 use Rattle.fp_model.specs.Items.{items_of}
@@ -9,7 +9,8 @@ use Rattle.ci_pool.specs.Held.{Held, pending_at}
 use Rattle.area_redo.specs.Redo.{AreaBytes, Layout, RedoesThrough}
 use Rattle.area_redo.specs.Standing.{Way, since_mark, Owed, Stands, MayOpen}
 use Rattle.area_staging.specs.Items.{is_imaged}
-use Rattle.area_states.specs.Places.{layout_of}
+use Rattle.area_states.specs.declared.place.Place.{Place}
+use Rattle.area_states.specs.Places.{layout_of, place_at}
 use Rattle.dedb_area.specs.Standing.{Holding, AreasStand, AreasMayOpen}
 
 -- Calls that write no interval: areas that stand do so behind them, and the tail's items make their bytes of what a
@@ -36,6 +37,10 @@ pub record KeepsAreas (way : Way) (bytes : AreaBytes) (old new : Disk) (before a
 -- no data set but those of areas changes, at any moment
 abbrev pub OnlyAreas : Disk → Disk → Type 0
 OnlyAreas = OnlyIn (λ set. first_area_set ≤ set)
+
+-- the data set of each area is durable
+abbrev pub AreDurable : List Place → Disk → Type 0
+AreDurable places disk = (set : ℕ) (place : Place) → place_at places set ≡ Some place → IsDurable disk set
 
 -- Syncs of areas, whatever they answer: no contents change, what was durable stays so, and areas stand as before.
 pub record SyncsAreas (old new : Disk) : Type 0 where

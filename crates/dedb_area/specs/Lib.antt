@@ -11,3 +11,4 @@ pub mod Appending
 pub mod Purging
 pub mod Committing
 pub mod Dropping
+pub mod Leading

@@ -3,9 +3,10 @@ use Rattle.std.specs.Prelude.{◌≡◌, ℕ, ◌+◌, ◌==◌, ◌&&◌, Bool,
 use Rattle.ci_space.specs.Interval.{IsInterval}
 use Rattle.fp_model.specs.declared.log.Item.{Item}
 use Rattle.ci_pool.specs.Held.{Held, pending_at, staged_at}
-use Rattle.seq_dependents.specs.Control.{AreEnds, ChangesEnds, begin_in, end_in}
+use Rattle.seq_dependents.specs.Control.{ChangesEnds, begin_in, end_in}
 use Rattle.area_states.specs.declared.place.Place.{Place}
 use Rattle.dedb_area.specs.Anchors.{CountsIntervals}
+use Rattle.dedb_area.specs.Control.{AreEnds}
 use Rattle.area_staging.specs.Items.{HasFlag, IsChange}
 use Rattle.dedb_area.specs.Standing.{IsUnstaged}
 
@@ -14,10 +15,10 @@ pub record IsPurged (n : ℕ) (old new : List ℕ) : Type 0 where
   pub ends : ChangesEnds old new (min (end_in old) (begin_in old + n)) (end_in old)
   pub is_interval : IsInterval new
 
--- Control that may be purged: it counts the intervals, and has two ends.
+-- Control that may be purged: it counts the intervals, and its ends are those of a part with so many slots.
 pub record MayPurge (place : Place) (control : List ℕ) : Type 0 where
   pub counts : CountsIntervals place control
-  pub are_ends : AreEnds (begin_in control) (end_in control)
+  pub are_ends : AreEnds place.capacity control
 
 -- an area's intervals with other control
 abbrev pub with_control : List ℕ → (ℕ → List ℕ) → ℕ → List ℕ

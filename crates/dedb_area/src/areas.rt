@@ -1,9 +1,8 @@
 //! The areas of a site: their intervals at hand, and which data sets have to be synced.
 
 ghost use Rattle.std.specs.Prelude.{Err, IsErrOf, ◌≡◌, ◌≢◌, ◌+◌, ◌-◌, ◌≤◌, ◌<◌, ℕ, Ok, Some, None, true, false, IsSome, IfOk, OnOk, OnErr, IsTrue, slice_get, [], length, is_some};
-ghost use Rattle.fp_site.specs.Disk.{IsDurable};
 ghost use Rattle.fp_site.specs.Site.{Counts, ReadsNothing};
-ghost use Rattle.fp_model.specs.State.{first_area_set, roots_at};
+ghost use Rattle.fp_model.specs.State.{roots_at};
 ghost use Rattle.fp_model.specs.WellFormed.{AreDefs};
 ghost use Rattle.ci_space.specs.Calls.{Rose};
 ghost use Rattle.ci_pool.specs.Held.{SameAtHand, pending_at, IsOldestSealed, NoneSealed, NoneOwes, IsFirstOwed, AreUnsealed};
@@ -26,7 +25,7 @@ ghost use Rattle.area_states.specs.Places.{places_of, place_at};
 ghost use Rattle.area_states.specs.declared.place.Place.{Place as PlaceOf};
 ghost use Rattle.dedb_area.specs.declared.fault.AreaFault.TheVariants as fault;
 ghost use Rattle.dedb_area.specs.Standing.{IsFitPool, AreSynced, AreasStand};
-ghost use Rattle.dedb_area.specs.Keeping.{KeepsAreas, OnlyAreas, IsWritten, NonePending, StillWaits};
+ghost use Rattle.dedb_area.specs.Keeping.{AreDurable, KeepsAreas, OnlyAreas, IsWritten, NonePending, StillWaits};
 ghost use Rattle.ci_pool.specs.Cells.{pending_number};
 
 use crate::AreaFault;
@@ -67,7 +66,7 @@ impl Model for Areas {
       pool = a.pool;
     } };
 
-    ghost invariant = { λ a. (length a.unsynced.items ≤ 256) × ArePlaces a.places.items
+    ghost invariant = { λ a. (length a.unsynced.items ≡ length a.places.items) × ArePlaces a.places.items
         × (length a.imaged.items ≡ length a.places.items) × (length a.places.items ≤ 256) };
 }
 
@@ -243,6 +242,7 @@ impl Areas {
         ensures fit { IsFitPool self.old.places self.old.pool → IsFitPool self.new.places self.new.pool }
         ensures places { self.new.places ≡ self.old.places }
         ensures imaged { self.new.imaged ≡ self.old.imaged }
+        ensures count { length self.new.unsynced ≡ length self.old.unsynced }
 
         // The areas stand as before, whatever it answers and at each moment.
         ensures keeps_areas { T.told site.old → (way : Way) (bytes : AreaBytes) → sealed ≤ sealed_of way
@@ -286,6 +286,7 @@ impl Areas {
         ensures fit { IsFitPool self.old.places self.old.pool → IsFitPool self.new.places self.new.pool }
         ensures places { self.new.places ≡ self.old.places }
         ensures imaged { self.new.imaged ≡ self.old.imaged }
+        ensures count { length self.new.unsynced ≡ length self.old.unsynced }
 
         // The areas stand as before, whatever it answers and at each moment.
         ensures keeps_areas { T.told site.old → (way : Way) (bytes : AreaBytes) → sealed ≤ sealed_of way
@@ -351,8 +352,7 @@ impl Areas {
         ensures none { IsFitPool self.old.places self.old.pool → OnOk result (NonePending self.new.pool) }
         ensures durable { T.told site.old → (way : Way) (bytes : AreaBytes) → way.unsealed ≡ []
             → AreasStand way bytes (T.disk site.old) self.old
-            → OnOk result ((number : ℕ) → number < length self.new.unsynced
-            → IsDurable (T.disk site.new) (first_area_set + number)) }
+            → OnOk result (AreDurable self.new.places (T.disk site.new)) }
         ensures synced { OnOk result ((number : ℕ) → slice_get self.new.unsynced number ≢ Some true) }
 
         // What waits still, waited before.
@@ -383,10 +383,9 @@ impl Areas {
     /// Syncs every area that was written to since the last success. After `Failed` they are to be synced still. Takes no
     /// memory.
     pub fn sync_written<T: Site>(&mut self, site: &mut T) -> Result<(), Failed>
-        // At `Ok` each area that stood is durable, and none is to be synced.
+        // At `Ok` each area is durable, and none is to be synced.
         ensures durable { T.told site.old → AreSynced self.old.unsynced (T.disk site.old)
-            → OnOk result ((number : ℕ) → number < length self.new.unsynced
-            → IsDurable (T.disk site.new) (first_area_set + number)) }
+            → OnOk result (AreDurable self.new.places (T.disk site.new)) }
         ensures synced { OnOk result ((number : ℕ) → slice_get self.new.unsynced number ≢ Some true) }
         ensures count { length self.new.unsynced ≡ length self.old.unsynced }
         ensures err { OnErr result (self.new ≡ self.old) }

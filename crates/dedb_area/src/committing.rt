@@ -20,14 +20,14 @@ ghost use Rattle.area_states.specs.Changes.{IsInsertable, IsStorable, IsTooFull}
 ghost use Rattle.area_states.specs.Databases.{AreFor, state_of};
 ghost use Rattle.area_states.specs.Places.{ArePlaces, IsPlace, counted_by, has_anchor, place_at, places_of};
 ghost use Rattle.area_states.specs.States.{AreaState, HasState};
-ghost use Rattle.area_staging.specs.Changing.{AllBefore, AreStagedBy, IsFitFor, Stages, StagesItems};
+ghost use Rattle.area_staging.specs.Changing.{AllBefore, AreStagedBy, IsFitFor, IsLeastOf, Stages, StagesItems};
 ghost use Rattle.area_staging.specs.Flags.{AreFlagged};
 ghost use Rattle.area_staging.specs.Items.{HasFlag, is_imaged};
 ghost use Rattle.area_staging.specs.Staging.{AllAtHand};
 ghost use Rattle.ci_pool.specs.Held.{SameAtHand};
 ghost use Rattle.dedb_area.specs.Anchors.{AreInTime, CountsIntervals, IsBegin, ShowsArea, ShowsAreas, intervals_of};
 ghost use Rattle.dedb_area.specs.Appending.{MayEnter, StagesInAreas};
-ghost use Rattle.dedb_area.specs.Committing.{AreStagedUpTo, ChangesOneSegment, ConcernedAreAtHand, FitAreas, FitsArea, FitsCommit, HasRoomFor, IsBeginIn, IsFirstFull, IsFitItem, MakesArea, MayStage, OneSegmentChanges, OnlyChanges, StagesAll, committed, has_change, has_insert, is_concerned};
+ghost use Rattle.dedb_area.specs.Committing.{AreStagedUpTo, ChangesOneSegment, ConcernedAreAtHand, FitAreas, FitsArea, FitsCommit, HasRoomFor, IsBeginIn, IsFirstFull, IsFitItem, IsLeast, MakesArea, MayStage, OneSegmentChanges, OnlyChanges, StagesAll, committed, has_change, has_insert, is_concerned};
 ghost use Rattle.dedb_area.specs.Standing.{AreasStand, IsUnstaged};
 ghost use Rattle.dedb_area.specs.declared.fault.AreaFault.TheVariants as fault;
 
@@ -122,6 +122,10 @@ fn stage_area<T: Site>(
         → (state : AreaState) → HasState place.now (intervals_of place.now bytes) state
         → FitsArea place.now state changes.now → ChangesOneSegment place.now state changes.now inserts.now
         → is_concerned place.now changes.now inserts.now ≡ true → IfOk result (λ items. length items ≡ 1) }
+    ensures least { T.told site.old → (bytes : ℕ → ListOf ℕ)
+        → ShowsArea place.now set (T.disk site.old).contents pool.old bytes
+        → IfOk result (AllByRecursion (IsLeastOf (counted_by (Some place.now) (bytes 0))
+        (is_imaged imaged.old.items set) bytes)) }
     ensures fit { IfOk result (AllByRecursion (IsFitFor set place.now.shape.ci)) }
     ensures in_order { IfOk result (λ items. is_ascending items ≡ true) }
     ensures flagged { IfOk result (AreFlagged imaged.new.items) }
@@ -198,6 +202,10 @@ fn stage_here<T: Site>(
         → FitsArea place.now state changes.now → ChangesOneSegment place.now state changes.now inserts.now
         → is_concerned place.now changes.now inserts.now ≡ true → IfOk result (λ items. length items ≡ 1) }
     ensures none { is_concerned place.now changes.now inserts.now ≡ false → IfOk result (λ items. items ≡ []) }
+    ensures least { T.told site.old → (bytes : ℕ → ListOf ℕ)
+        → ShowsArea place.now set (T.disk site.old).contents pool.old bytes
+        → IfOk result (AllByRecursion (IsLeastOf (counted_by (Some place.now) (bytes 0))
+        (is_imaged imaged.old.items set) bytes)) }
     ensures fit { IfOk result (AllByRecursion (IsFitFor set place.now.shape.ci)) }
     ensures in_order { IfOk result (λ items. is_ascending items ≡ true) }
     ensures flagged { IfOk result (AreFlagged imaged.new.items) }
@@ -260,6 +268,9 @@ fn stage_all<T: Site>(
         → ShowsAreas places.now (T.disk site.old).contents pool.old newest → AreFor places.now newest db
         → FitAreas places.now db changes.now → OneSegmentChanges places.now db changes.now inserts.now
         → IfOk result (λ items. length items ≡ 1) }
+    ensures least { T.told site.old → (newest : AreaBytes)
+        → ShowsAreas places.now (T.disk site.old).contents pool.old newest
+        → IfOk result (AllByRecursion (IsLeast places.now (is_imaged imaged.old.items) newest)) }
     ensures fit { IfOk result (AllByRecursion (IsFitItem places.now)) }
     ensures in_order { IfOk result (λ items. is_ascending items ≡ true) }
     ensures flagged { IfOk result (AreFlagged imaged.new.items) }
@@ -339,6 +350,13 @@ impl Areas {
             → IfOk result (AllByRecursion (IsFit defs)) }
         ensures in_order { IfOk result (λ items. is_ascending items ≡ true) }
         ensures flagged { IfOk result (AreFlagged self.new.imaged) }
+
+        // One that stood has an image only where it had no item since the mark, and a range begins and ends with a byte that
+        // differs.
+        ensures least { T.told site.old → (way : Way) (bytes : AreaBytes)
+            → AreasStand way bytes (T.disk site.old) self.old
+            → IfOk result (AllByRecursion (IsLeast self.old.places (is_imaged self.old.imaged)
+            (behind way.unsealed bytes))) }
 
         // Where one segment changes alone, of one anchor, there is one item in all.
         ensures one { T.told site.old → (way : Way) (bytes : AreaBytes) (defs : DefsOf) (db : Db) (c : ChangeOf)

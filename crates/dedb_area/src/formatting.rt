@@ -10,6 +10,7 @@ ghost use Rattle.fp_model.specs.WellFormed.{AreDefs};
 ghost use Rattle.fp_site.specs.Disk.{IsDurable, Leaves};
 ghost use Rattle.fp_site.specs.Site.{ReadsNothing};
 ghost use Rattle.dedb_area.specs.Formatting.{IsStarted, IsFormatted};
+ghost use Rattle.dedb_area.specs.Keeping.{OnlyAreas};
 ghost use Rattle.dedb_area.specs.Opening.{AreFormatted, AreOpened, bytes_in, no_entries};
 ghost use Rattle.dedb_area.specs.Standing.{AreasStand, Holding};
 ghost use Rattle.area_states.specs.Databases.{AreFor};
@@ -91,12 +92,14 @@ fn write_start<T: Site>(
     shape: &Shape,
     ci: u64,
 ) -> Result<(), AreaFault>
+    requires from { first_area_set ≤ set }
     requires size { IsTrue (is_size shape.now.ci) }
     requires counted { ci < first_independent shape.now }
     requires ends { (ci + 1) * shape.now.ci ≤ 2 ^ 62 }
     ensures started { T.told site.old → IsStarted shape.now ci ((T.disk site.old).contents set)
         → OnOk result (IsStarted shape.now (ci + 1) ((T.disk site.new).contents set)) }
     ensures leaves { T.told site.old → Leaves set (T.disk site.old) (T.disk site.new) }
+    ensures areas { T.told site.old → OnlyAreas (T.disk site.old) (T.disk site.new) }
     ensures aside { T.told site.old → (k : ℕ) → k ≢ set → IsDurable (T.disk site.old) k → IsDurable (T.disk site.new) k }
     ensures failed { IsErrOf result fault.Device → Rose (T.faults site.old) (T.faults site.new) }
     ensures later { T.faults site.old ≤ T.faults site.new }
@@ -122,11 +125,13 @@ fn format_area<T: Site>(
     set: u16,
     shape: &Shape,
 ) -> Result<(), AreaFault>
-    requires { IsTrue (is_size shape.now.ci) }
+    requires from { first_area_set ≤ set }
+    requires size { IsTrue (is_size shape.now.ci) }
     ensures started { T.told site.old → OnOk result
         (IsStarted shape.now (first_independent shape.now) ((T.disk site.new).contents set)) }
     ensures durable { T.told site.old → OnOk result (IsDurable (T.disk site.new) set) }
     ensures leaves { T.told site.old → Leaves set (T.disk site.old) (T.disk site.new) }
+    ensures areas { T.told site.old → OnlyAreas (T.disk site.old) (T.disk site.new) }
     ensures aside { T.told site.old → (k : ℕ) → k ≢ set → IsDurable (T.disk site.old) k
         → IsDurable (T.disk site.new) k }
     ensures failed { IsErrOf result fault.Device → Rose (T.faults site.old) (T.faults site.new) }
@@ -154,9 +159,7 @@ fn format_all<T: Site>(alloc: Global, site: &mut T, places: &[Place]) -> Result<
     requires few { length places.now ≤ 256 }
     ensures formatted { T.told site.old → OnOk result ((number : ℕ) (place : PlaceOf)
         → slice_get places.now number ≡ Some place → IsFormatted place.shape (first_area_set + number) (T.disk site.new)) }
-    ensures only { T.told site.old → (k : ℕ) → k < first_area_set
-        → (T.disk site.new).contents k ≡ (T.disk site.old).contents k }
-    ensures sent { T.told site.old → (T.disk site.new).sent ≡ (T.disk site.old).sent }
+    ensures only { T.told site.old → OnlyAreas (T.disk site.old) (T.disk site.new) }
     ensures failed { IsErrOf result fault.Device → Rose (T.faults site.old) (T.faults site.new) }
     ensures later { T.faults site.old ≤ T.faults site.new }
     ensures never_damaged { (s at : ℕ) → result ≢ Err (fault.Damaged s at) }
@@ -189,10 +192,8 @@ impl Areas {
         ensures formatted { T.told site.old → OnOk result ((set : ℕ) (place : PlaceOf)
             → place_at (places_of defs.now) set ≡ Some place → IsFormatted place.shape set (T.disk site.new)) }
 
-        // What stays: the log, the checkpoints, and what was sent.
-        ensures others { T.told site.old → (k : ℕ) → k < first_area_set
-            → (T.disk site.new).contents k ≡ (T.disk site.old).contents k }
-        ensures sent { T.told site.old → (T.disk site.new).sent ≡ (T.disk site.old).sent }
+        // What stays at each moment: the log, the checkpoints, and what was sent.
+        ensures only { T.told site.old → OnlyAreas (T.disk site.old) (T.disk site.new) }
 
         // It fails only with the site.
         ensures failed { IsErrOf result fault.Device → Rose (T.faults site.old) (T.faults site.new) }

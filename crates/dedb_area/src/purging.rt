@@ -36,7 +36,7 @@ ghost use Rattle.dedb_area.specs.declared.fault.AreaFault.{AreaFault as FaultOf}
 ghost use Rattle.dedb_area.specs.declared.fault.AreaFault.TheVariants as fault;
 
 use crate::counting::count_in;
-use crate::reading::{control, place_in};
+use crate::reading::{control, ends_in, place_in};
 use crate::{AreaFault, Areas};
 use area_staging::{Staging, is_imaged, item_of, make_room, rest};
 use area_states::Place;
@@ -137,6 +137,9 @@ fn control_purged<T: Site>(
     ensures damaged { T.told site.old → (bytes : ℕ → ListOf ℕ)
         → ShowsArea place.now set (T.disk site.old).contents pool.old bytes
         → (s at : ℕ) → result ≡ Err (fault.Damaged s at) → ¬ MayPurge place.now (bytes 0) }
+    ensures sound { T.told site.old → (bytes : ℕ → ListOf ℕ)
+        → ShowsArea place.now set (T.disk site.old).contents pool.old bytes
+        → OnOk result (MayPurge place.now (bytes 0)) }
     ensures first { (s at : ℕ) → result ≡ Err (fault.Damaged s at) → (s ≡ set) × (at ≡ 0) }
     ensures never_full { (s begin end m : ℕ) → result ≢ Err (fault.SeqFull s begin end m) }
     ensures failed { IsErrOf result fault.Device → Rose (T.faults site.old) (T.faults site.new) }
@@ -144,6 +147,9 @@ fn control_purged<T: Site>(
         pool.new }
 {
     let old = control(pool, site, place, set)?;
+    if ends_in(&old, place.capacity).is_none() {
+        return Err(AreaFault::Damaged { set, at: 0 });
+    }
     let count = match count_in(&old, &place.shape) {
         Some(count) => count,
         None => return Err(AreaFault::Damaged { set, at: 0 }),
@@ -228,6 +234,9 @@ impl Areas {
             → AreasStand way bytes (T.disk site.old) self.old → place_at self.old.places set ≡ Some place
             → result ≡ Err (fault.Damaged s at)
             → ¬ MayPurge place (behind way.unsealed bytes set 0) }
+        ensures sound { T.told site.old → (way : Way) (bytes : AreaBytes) (place : PlaceOf)
+            → AreasStand way bytes (T.disk site.old) self.old → place_at self.old.places set ≡ Some place
+            → OnOk result (MayPurge place (behind way.unsealed bytes set 0)) }
         ensures first { (s at : ℕ) → result ≡ Err (fault.Damaged s at) → (s ≡ set) × (at ≡ 0) }
         ensures failed { IsErrOf result fault.Device → Rose (T.faults site.old) (T.faults site.new) }
         ensures never_full { (s begin end m : ℕ) → result ≢ Err (fault.SeqFull s begin end m) }

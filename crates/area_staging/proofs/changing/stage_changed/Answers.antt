@@ -7,6 +7,7 @@ use Rattle.area_staging.specs.Changing.{MakeChanges}
 use Rattle.area_staging.specs.Items.{is_imaged}
 use Rattle.area_staging.proofs.Data.{sized_newest}
 use Rattle.area_staging.proofs.Stages.{stages_then, still_shows}
+use Rattle.area_staging.proofs.Least.{least_more}
 use Rattle.area_staging.proofs.AtHand.{hand_then, still_at_hand}
 use Rattle.area_staging.proofs.Steps.{at_last, before_more, fit_more, flags_more, item_as, no_entries, order_more, some_bytes, taken, taken_staged}
 use Rattle.area_staging.proofs.changing.stage_changed.Goals as goal
@@ -99,6 +100,14 @@ loop-ci-preserved g c =
           (c.in_ok-item.ensures.item (inv.stages.tells t) b
           (shows_on b c.args.site.now c.loop-ci.site c.args.pool.now c.loop-ci.pool inv.stages t shown)))
           (same_long b t shown) e;
+      least = λ t b shown.
+          least_more (is_imaged c.args.imaged.now.items area.set) area b ci bytes c.loop-ci.items c.add.new.items
+          c.in_ok-item.item
+          (item_as area ci (b ci) bytes c.in_ok-item.item (is_imaged c.loop-ci.imaged.items area.set ci)
+          (is_imaged c.args.imaged.now.items area.set ci) flag
+          (c.in_ok-item.ensures.item (inv.stages.tells t) b
+          (shows_on b c.args.site.now c.loop-ci.site c.args.pool.now c.loop-ci.pool inv.stages t shown)))
+          e (inv.least t b shown);
       staged = λ t b shown.
           taken_staged (is_imaged c.args.imaged.now.items area.set) area b ci bytes all left left2 was is gone others
           c.loop-ci.items c.add.new.items c.in_ok-item.item c.args.pool.now c.loop-ci.pool c.stage_one.new.pool

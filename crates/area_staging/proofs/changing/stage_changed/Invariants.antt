@@ -4,7 +4,7 @@ use Rattle.std.specs.List.{AllByRecursion}
 use Rattle.std.specs.Ordering.{nat_cmp}
 use Rattle.std.specs.BTreeMap.{btree_map_len, get}
 use Rattle.fp_model.specs.ItemTargets.{is_ascending}
-use Rattle.area_staging.specs.Changing.{AllBefore, IsFitFor, MakeChanges, Shows, Stages, StagesItems}
+use Rattle.area_staging.specs.Changing.{AllBefore, IsFitFor, IsLeastOf, MakeChanges, Shows, Stages, StagesItems}
 use Rattle.area_staging.specs.Flags.{AreFlagged}
 use Rattle.area_staging.specs.Items.{HasFlag, is_imaged}
 use Rattle.ci_pool.specs.Held.{SameAtHand}
@@ -31,6 +31,9 @@ invariant-loop-ci g l = record {
       → Shows l.area (g.T.Site.disk l.initial.site).contents l.initial.pool bytes
       → MakeChanges l.area.set l.area.count (is_imaged l.initial.imaged.items l.area.set) bytes
       (done_of (get nat_cmp l.initial.left) (get nat_cmp l.left)) l.items;
+  least : g.T.Site.told l.initial.site → (bytes : ℕ → List ℕ)
+      → Shows l.area (g.T.Site.disk l.initial.site).contents l.initial.pool bytes
+      → AllByRecursion (IsLeastOf l.area.count (is_imaged l.initial.imaged.items l.area.set) bytes) l.items;
   staged : g.T.Site.told l.initial.site → (bytes : ℕ → List ℕ)
       → Shows l.area (g.T.Site.disk l.initial.site).contents l.initial.pool bytes
       → StagesItems l.area.set l.items bytes l.initial.pool l.pool;

@@ -13,12 +13,12 @@ use Rattle.area_staging.specs.Items.{is_imaged}
 use Rattle.area_staging.proofs.AtHand.{hand_then, still_at_hand}
 use Rattle.area_staging.proofs.Staged.{reads_then}
 use Rattle.std.proofs.lemmas.Bool.{cases_Bool}
-use Rattle.dedb_area.specs.Committing.{AreStagedUpTo, IsFitItem, committed, is_concerned}
+use Rattle.dedb_area.specs.Committing.{AreStagedUpTo, IsFitItem, IsLeast, committed, is_concerned}
 use Rattle.dedb_area.proofs.Ones.{not_yet, one_added, one_in_all, one_passed, two_concerned}
 use Rattle.dedb_area.proofs.AnchorLemmas.{at_number, got, state_here, within_areas}
 use Rattle.dedb_area.proofs.CommitLaws.{counts_in_time}
 use Rattle.dedb_area.proofs.Data.{place_there}
-use Rattle.dedb_area.proofs.StagedAreas.{before_next_area, fit_more_items, flag_more_items, makes_as, area_more, none_yet, order_more_items}
+use Rattle.dedb_area.proofs.StagedAreas.{before_next_area, fit_more_items, flag_more_items, least_more_items, makes_as, area_more, none_yet, order_more_items}
 use Rattle.dedb_area.proofs.Staying.{all_itself, all_more, all_shown}
 use Rattle.dedb_area.proofs.committing.stage_all.Goals as goal
 
@@ -33,6 +33,8 @@ loop-place-init g c =
       flags = λ s k. refl;
       flagged = subst (AreFlagged c.args.imaged.now.items) (sym none) tt;
       fit = subst (AllByRecursion (IsFitItem places)) (sym none) tt;
+      least = λ told newest shown.
+          subst (AllByRecursion (IsLeast places (is_imaged c.args.imaged.now.items) newest)) (sym none) tt;
       in_order = ap is_ascending none;
       before = subst (AllBefore (first_area_set + 0) 0) (sym none) tt;
       stages = all_itself g.T.Site.told g.T.Site.disk g.T.Site.faults g.T.Site.holds g.T.Site.keeps places
@@ -267,6 +269,14 @@ loop-place-preserved g c =
           c.stage_here.ensures.kept inv.flagged c.in_ok-more.ensures.flagged);
       fit = subst (AllByRecursion (IsFitItem places)) (sym added)
           (fit_more_items places set place items more is inv.fit c.in_ok-more.ensures.fit);
+      least = λ told newest shown.
+          let shown1 = all_shown g.T.Site.told g.T.Site.disk g.T.Site.faults g.T.Site.holds g.T.Site.keeps places
+          c.args.site.now c.loop-place.site c.args.pool.now c.loop-place.pool newest inv.stages told shown in
+          subst (AllByRecursion (IsLeast places (is_imaged c.args.imaged.now.items) newest)) (sym added)
+          (least_more_items places set place (is_imaged c.loop-place.imaged.items)
+          (is_imaged c.args.imaged.now.items) newest items more is inv.flags (inv.least told newest shown)
+          (c.in_ok-more.ensures.least (inv.stages.tells told) (newest set) (shown1 set place is))
+          c.in_ok-more.ensures.fit);
       in_order = ap is_ascending added
           ∙ order_more_items set place.shape.ci items more before inv.in_order c.in_ok-more.ensures.in_order
           c.in_ok-more.ensures.fit;

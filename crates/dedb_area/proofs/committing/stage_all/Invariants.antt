@@ -11,7 +11,7 @@ use Rattle.area_staging.specs.Changing.{AllBefore}
 use Rattle.area_staging.specs.Flags.{AreFlagged}
 use Rattle.area_staging.specs.Items.{is_imaged}
 use Rattle.dedb_area.specs.Anchors.{ShowsAreas}
-use Rattle.dedb_area.specs.Committing.{AreStagedUpTo, ConcernedAreAtHand, FitAreas, IsFitItem, OneSegmentChanges, StagesAll}
+use Rattle.dedb_area.specs.Committing.{AreStagedUpTo, ConcernedAreAtHand, FitAreas, IsFitItem, IsLeast, OneSegmentChanges, StagesAll}
 use Rattle.dedb_area.specs.Standing.{IsUnstaged}
 use Rattle.dedb_area.proofs.Ones.{HasOneItem}
 use Rattle.dedb_area.proofs.committing.stage_all.Given as goal
@@ -29,6 +29,9 @@ invariant-loop-place g l = record {
   before : AllBefore (first_area_set + l.place-index) 0 l.items;
   stages : StagesAll g.T.Site.told g.T.Site.disk g.T.Site.faults g.T.Site.holds g.T.Site.keeps l.places l.initial.site
       l.site l.initial.pool l.pool;
+  least : g.T.Site.told l.initial.site → (newest : AreaBytes)
+      → ShowsAreas l.places (g.T.Site.disk l.initial.site).contents l.initial.pool newest
+      → AllByRecursion (IsLeast l.places (is_imaged l.initial.imaged.items) newest) l.items;
   staged : g.T.Site.told l.initial.site → (newest : AreaBytes) (db : Db)
       → ShowsAreas l.places (g.T.Site.disk l.initial.site).contents l.initial.pool newest
       → AreFor l.places newest db → IsUnstaged l.initial.pool → FitAreas l.places db l.changes

@@ -1,4 +1,5 @@
 use Rattle.std.proofs.Common.{◌≡◌, ◌∙◌, ◌≤◌, length, sym, subst, true}
+use Rattle.std.specs.Prelude.{IfOk, Some}
 use Rattle.std.specs.List.{AllByRecursion}
 use Rattle.fp_model.specs.ItemTargets.{is_ascending}
 use Rattle.std.specs.Ordering.{nat_cmp}
@@ -6,7 +7,8 @@ use Rattle.std.specs.BTreeMap.{get}
 use Rattle.std.proofs.lemmas.Result.{err_from_is_err_and}
 use Rattle.ci_pool.specs.Held.{held_at}
 use Rattle.root_anchor.proofs.Exits.{same_fault}
-use Rattle.area_staging.specs.Changing.{IsFitFor, MakeChanges, StagesItems}
+use Rattle.area_states.specs.Places.{counted_by}
+use Rattle.area_staging.specs.Changing.{IsFitFor, IsLeastOf, MakeChanges, StagesItems}
 use Rattle.area_staging.specs.Items.{is_imaged}
 use Rattle.area_staging.specs.Staging.{AllAtHand}
 use Rattle.area_staging.proofs.AtHand.{hand_then, still_at_hand}
@@ -216,6 +218,25 @@ returns-clause-staged g c = λ told bytes shown.
     (λ items staged. stages_behind c.args.set items bytes c.args.pool.now c.changed_intervals.new.pool
     c.stage_changed-staged.new.pool
     (λ k. same_staged c.args.pool.now c.changed_intervals.new.pool (looks2.cells ∙ looks.cells) c.args.set k) staged))
+
+pub returns-clause-least : goal.returns-clause-least
+returns-clause-least g c = λ told bytes shown.
+    let place = c.args.place.now in
+    let count = c.in_ok-count.count in
+    let imaged = is_imaged c.args.imaged.now.items c.args.set in
+    let looks = c.counted.ensures.looks in
+    let looks2 = c.changed_intervals.ensures.looks in
+    let shown1 = still_shown g.T.Site.told g.T.Site.disk g.T.Site.faults g.T.Site.holds g.T.Site.keeps place c.args.set
+    bytes c.args.site.now c.counted.new.site c.args.pool.now c.counted.new.pool looks told shown in
+    let shown2 = still_shown g.T.Site.told g.T.Site.disk g.T.Site.faults g.T.Site.holds g.T.Site.keeps place c.args.set
+    bytes c.counted.new.site c.changed_intervals.new.site c.counted.new.pool c.changed_intervals.new.pool looks2
+    (looks.tells told) shown1 in
+    let from = c.in_ok-count.ensures.count told bytes shown in
+    given_ok c.given_items.result c.stage_changed-staged.result
+    (AllByRecursion (IsLeastOf (counted_by (Some place) (bytes 0)) imaged bytes)) c.given_items.ensures.same
+    (subst (λ n. IfOk c.stage_changed-staged.result (AllByRecursion (IsLeastOf n imaged bytes))) from
+    (c.stage_changed-staged.ensures.least (looks2.tells (looks.tells told)) bytes
+    (shows_extent place c.args.set count _ c.changed_intervals.new.pool bytes from shown2)))
 
 pub returns-clause-room : goal.returns-clause-room
 returns-clause-room g c = λ told bytes shown state has fits.

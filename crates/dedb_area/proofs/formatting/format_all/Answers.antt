@@ -1,10 +1,29 @@
-use Rattle.std.proofs.Common.{◌≡◌, ◌≢◌, inl, inr, ◌+◌, ◌∙◌, get_or, arith}
+use Rattle.std.proofs.Common.{◌≡◌, ◌≢◌, inl, inr, ◌+◌, ◌≤◌, ◌∙◌, get_or, refl, arith}
 use Rattle.std.specs.Prelude.{slice_get, Some}
 use Rattle.std.proofs.lemmas.Bool.{cases_eq}
 use Rattle.std.proofs.lemmas.Option.{slice_get-get_or, slice_get_within}
+use Rattle.fp_site.proofs.Frames.{only_in_joined, only_in_none}
 use Rattle.fp_model.specs.State.{first_area_set}
 use Rattle.dedb_area.proofs.Formatted.{formatted_here, formatted_still}
 use Rattle.dedb_area.proofs.formatting.format_all.Goals as goal
+
+pub loop-number-init : goal.loop-number-init
+loop-number-init g c = record {
+  formatted = λ t k place lt is. absurd (omega (arith, lt));
+  only = λ t. only_in_none (λ s. first_area_set ≤ s) (g.T.Site.disk c.args.site.now);
+  later = omega arith;
+  told = λ t. t;
+  holds = refl;
+  keeps = λ first k. k;
+  reads = λ set t. (t, refl);
+}
+
+pub returns-in_err-format_area-clause-only : goal.returns-in_err-format_area-clause-only
+returns-in_err-format_area-clause-only g c told =
+    let inv = c.loop-number.invariant in
+    only_in_joined (λ s. first_area_set ≤ s) (g.T.Site.disk c.args.site.now) (g.T.Site.disk c.loop-number.site)
+    (g.T.Site.disk c.format_area.new.site) (g.met.T.Site.lawful c.args.site.now told)
+    (g.met.T.Site.lawful c.loop-number.site (inv.told told)) (inv.only told) (c.format_area.ensures.areas (inv.told told))
 
 pub loop-number-preserved : goal.loop-number-preserved
 loop-number-preserved g c =
@@ -25,10 +44,10 @@ loop-number-preserved g c =
             (g.T.Site.disk c.format_area.new.site) apart (e.leaves (inv.told t))
             (e.aside (inv.told t) (first_area_set + k) apart) (inv.formatted t k place (omega (arith, lt, ne)) is)
       ];
-      only = λ t k lt.
-          let ne : k ≢ first_area_set + n = λ same. omega (arith, same, lt) in
-          (e.leaves (inv.told t)).contents k ne ∙ inv.only t k lt;
-      sent = λ t. (e.leaves (inv.told t)).sent ∙ inv.sent t;
+      only = λ t. only_in_joined (λ s. first_area_set ≤ s) (g.T.Site.disk c.args.site.now)
+          (g.T.Site.disk c.loop-number.site) (g.T.Site.disk c.format_area.new.site)
+          (g.met.T.Site.lawful c.args.site.now t) (g.met.T.Site.lawful c.loop-number.site (inv.told t)) (inv.only t)
+          (e.areas (inv.told t));
       later = omega (arith, inv.later, e.later);
       told = λ t. e.told (inv.told t);
       holds = e.holds ∙ inv.holds;

@@ -4,15 +4,14 @@ use Rattle.fp_site.specs.Site.{ReadsNothing}
 use Rattle.fp_model.specs.State.{first_area_set}
 use Rattle.area_states.specs.declared.place.Place.{Place}
 use Rattle.dedb_area.specs.Formatting.{IsFormatted}
+use Rattle.dedb_area.specs.Keeping.{OnlyAreas}
 use Rattle.dedb_area.proofs.formatting.format_all.Given as goal
 
 abbrev pub invariant-loop-number : goal.invariant-loop-number
 invariant-loop-number g l = record {
   formatted : g.T.Site.told l.initial.site → (k : ℕ) (place : Place) → k < l.number
       → slice_get l.places k ≡ Some place → IsFormatted place.shape (first_area_set + k) (g.T.Site.disk l.site);
-  only : g.T.Site.told l.initial.site → (k : ℕ) → k < first_area_set
-      → (g.T.Site.disk l.site).contents k ≡ (g.T.Site.disk l.initial.site).contents k;
-  sent : g.T.Site.told l.initial.site → (g.T.Site.disk l.site).sent ≡ (g.T.Site.disk l.initial.site).sent;
+  only : g.T.Site.told l.initial.site → OnlyAreas (g.T.Site.disk l.initial.site) (g.T.Site.disk l.site);
   later : g.T.Site.faults l.initial.site ≤ g.T.Site.faults l.site;
   told : g.T.Site.told l.initial.site → g.T.Site.told l.site;
   holds : g.T.Site.holds l.site ≡ g.T.Site.holds l.initial.site;

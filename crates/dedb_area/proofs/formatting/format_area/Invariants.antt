@@ -2,12 +2,14 @@ use Rattle.std.proofs.Common.{◌≡◌, ◌≢◌, ◌≤◌, ℕ}
 use Rattle.fp_site.specs.Disk.{IsDurable, Leaves}
 use Rattle.fp_site.specs.Site.{ReadsNothing}
 use Rattle.dedb_area.specs.Formatting.{IsStarted}
+use Rattle.dedb_area.specs.Keeping.{OnlyAreas}
 use Rattle.dedb_area.proofs.formatting.format_area.Given as goal
 
 abbrev pub invariant-loop-ci : goal.invariant-loop-ci
 invariant-loop-ci g l = record {
   started : g.T.Site.told l.initial.site → IsStarted l.shape l.ci ((g.T.Site.disk l.site).contents l.set);
   leaves : g.T.Site.told l.initial.site → Leaves l.set (g.T.Site.disk l.initial.site) (g.T.Site.disk l.site);
+  areas : g.T.Site.told l.initial.site → OnlyAreas (g.T.Site.disk l.initial.site) (g.T.Site.disk l.site);
   aside : g.T.Site.told l.initial.site → (k : ℕ) → k ≢ l.set → IsDurable (g.T.Site.disk l.initial.site) k
       → IsDurable (g.T.Site.disk l.site) k;
   later : g.T.Site.faults l.initial.site ≤ g.T.Site.faults l.site;

@@ -1,8 +1,10 @@
-use Rattle.std.proofs.Common.{◌≡◌, ◌*◌, ◌∙◌, ap, sym, subst, length}
+use Rattle.std.proofs.Common.{◌≡◌, ◌≤◌, ◌*◌, ◌∙◌, ap, sym, subst, length}
 use Rattle.fp_site.specs.Disk.{written}
 use Rattle.dedb_area.specs.Formatting.{StartsAs}
 use Rattle.dedb_area.proofs.Data.{some_size}
-use Rattle.dedb_area.proofs.Formatted.{started_more, aside_torn}
+use Rattle.fp_site.proofs.Frames.{only_in_none}
+use Rattle.fp_model.specs.State.{first_area_set}
+use Rattle.dedb_area.proofs.Formatted.{started_more, aside_torn, torn_areas}
 use Rattle.dedb_area.proofs.formatting.write_start.Goals as goal
 
 pub returns-in-Ok-clause-started : goal.returns-in-Ok-clause-started
@@ -38,3 +40,17 @@ returns-clause-aside g c told k ne was =
     (g.met.T.Site.lawful c.args.site.now told)
     (g.met.T.Site.lawful c.write_at.new.self (c.write_at.ensures.told told)) (c.write_at.ensures.crash told)
     (c.write_at.ensures.leaves told) ne was
+
+pub returns-in_err-interval-clause-areas : goal.returns-in_err-interval-clause-areas
+returns-in_err-interval-clause-areas g c told =
+    only_in_none (λ s. first_area_set ≤ s) (g.T.Site.disk c.args.site.now)
+
+pub returns-in-Ok-clause-areas : goal.returns-in-Ok-clause-areas
+returns-in-Ok-clause-areas g c told =
+    torn_areas c.args.set _ _ (g.T.Site.disk c.args.site.now) (g.T.Site.disk c.write_at.new.self) c.requires.from
+    (c.write_at.ensures.crash told) (c.write_at.ensures.leaves told)
+
+pub returns-clause-areas : goal.returns-clause-areas
+returns-clause-areas g c told =
+    torn_areas c.args.set _ _ (g.T.Site.disk c.args.site.now) (g.T.Site.disk c.write_at.new.self) c.requires.from
+    (c.write_at.ensures.crash told) (c.write_at.ensures.leaves told)

@@ -13,7 +13,7 @@ use Rattle.area_staging.specs.Items.{is_imaged}
 use Rattle.area_staging.proofs.AtHand.{hand_of, hand_then}
 use Rattle.dedb_area.specs.Anchors.{AreInTime, ShowsAreas}
 use Rattle.dedb_area.specs.Appending.{MayEnter, StagesInAreas}
-use Rattle.dedb_area.specs.Committing.{AreStagedUpTo, ConcernedAreAtHand, FitsCommit, IsBeginIn, IsFitItem, MayStage, OnlyChanges, StagesAll}
+use Rattle.dedb_area.specs.Committing.{AreStagedUpTo, ConcernedAreAtHand, FitsCommit, IsBeginIn, IsFitItem, IsLeast, MayStage, OnlyChanges, StagesAll}
 use Rattle.dedb_area.specs.Standing.{AreasStand, Holding}
 use Rattle.dedb_area.proofs.AnchorLemmas.{shows}
 use Rattle.dedb_area.proofs.CommitLaws.{fills_first, fit_areas, for_committed, may_enter, none_full, one_segment}
@@ -195,6 +195,18 @@ returns-in-Ok-clause-defined g c = λ defs e.
     let e2 = c.deref-places.ensures.value
     ∙ subst (λ (h : Holding). h.places ≡ places_of defs) (sym c.self.view_is) e in
     defined_items defs c.deref-places.result.now c.in-Ok.items e2 c.in-Ok.ensures.fit
+
+pub returns-in-Ok-clause-least : goal.returns-in-Ok-clause-least
+returns-in-Ok-clause-least g c = λ told way bytes stands.
+    let value = c.deref-places.ensures.value in
+    let newest = behind way.unsealed bytes in
+    let now = subst (λ (h : Holding). AreasStand way bytes (g.T.Site.disk c.args.site.now) h) (sym c.self.view_is)
+    stands in
+    let shown = subst (λ ps. ShowsAreas ps (g.T.Site.disk c.args.site.now).contents c.self.inside.pool newest) (sym value)
+    (shows way bytes (g.T.Site.disk c.args.site.now) _ now) in
+    subst (λ (h : Holding). AllByRecursion (IsLeast h.places (is_imaged h.imaged) newest) c.in-Ok.items) c.self.view_is
+    (subst (λ ps. AllByRecursion (IsLeast ps (is_imaged c.self.inside.imaged.items) newest) c.in-Ok.items) value
+    (c.in-Ok.ensures.least told newest shown))
 
 pub returns-in-Ok-clause-unread : goal.returns-in-Ok-clause-unread
 returns-in-Ok-clause-unread g c = λ told way bytes stands all.

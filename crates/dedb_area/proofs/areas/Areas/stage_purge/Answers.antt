@@ -22,6 +22,7 @@ use Rattle.dedb_area.proofs.AnchorLemmas.{by_ok, shows, within_areas}
 use Rattle.dedb_area.proofs.Fitting.{defined_items}
 use Rattle.dedb_area.proofs.StagedAreas.{fit_more_items}
 use Rattle.dedb_area.proofs.StagedPurge.{at_err, none_staged, others_stay, purge_none, purge_staged, stages_here, stages_none, stands_then, still_unstaged}
+use Rattle.dedb_area.proofs.StageLemmas.{on_ok}
 use Rattle.dedb_area.proofs.Looks.{areas_looked}
 use Rattle.dedb_area.proofs.PurgeDatabases.{purge_places}
 use Rattle.dedb_area.proofs.PurgeEntry.{enters_purge}
@@ -88,6 +89,33 @@ returns-in-None-clause-purged g c = λ told way bytes stands.
     (c.in_ok-old.ensures.purged told (behind way.unsealed bytes c.args.set) shown)
     (still_unstaged c.self.inside.pool c.control_purged.new.pool c.control_purged.ensures.looks.cells
     now.fit.unstaged)
+
+pub returns-in-None-clause-sound : goal.returns-in-None-clause-sound
+returns-in-None-clause-sound g c = λ told way bytes p stands there.
+    let place = c.place_in-place.result.now in
+    let is = subst (λ l. place_at l c.args.set ≡ Some place) c.deref-places.ensures.value c.place_in-place.ensures in
+    let now = subst (λ (h : Holding). AreasStand way bytes (g.T.Site.disk c.args.site.now) h) (sym c.self.view_is)
+    stands in
+    let shown = shows way bytes (g.T.Site.disk c.args.site.now) _ now c.args.set place is in
+    let there2 = subst (λ (h : Holding). place_at h.places c.args.set ≡ Some p) (sym c.self.view_is) there in
+    let both : Some place ≡ Some p = sym is ∙ there2 in
+    let same : place ≡ p = cc in
+    subst (λ (q : Place). MayPurge q (behind way.unsealed bytes c.args.set 0)) same
+    (c.in_ok-old.ensures.sound told (behind way.unsealed bytes c.args.set) shown)
+
+pub returns-clause-sound : goal.returns-clause-sound
+returns-clause-sound g c = λ told way bytes p stands there.
+    let place = c.place_in-place.result.now in
+    let is = subst (λ l. place_at l c.args.set ≡ Some place) c.deref-places.ensures.value c.place_in-place.ensures in
+    let now = subst (λ (h : Holding). AreasStand way bytes (g.T.Site.disk c.args.site.now) h) (sym c.self.view_is)
+    stands in
+    let shown = shows way bytes (g.T.Site.disk c.args.site.now) _ now c.args.set place is in
+    let there2 = subst (λ (h : Holding). place_at h.places c.args.set ≡ Some p) (sym c.self.view_is) there in
+    let both : Some place ≡ Some p = sym is ∙ there2 in
+    let same : place ≡ p = cc in
+    on_ok c.stage_control.result (MayPurge p (behind way.unsealed bytes c.args.set 0))
+    (subst (λ (q : Place). MayPurge q (behind way.unsealed bytes c.args.set 0)) same
+    (c.in_ok-old.ensures.sound told (behind way.unsealed bytes c.args.set) shown))
 
 pub returns-in-None-clause-stages : goal.returns-in-None-clause-stages
 returns-in-None-clause-stages g c =
