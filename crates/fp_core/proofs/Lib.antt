@@ -17,6 +17,7 @@ pub mod Tells
 pub mod Seals
 pub mod Leavings
 pub mod SparingLemmas
+pub mod FrontLemmas
 pub mod StopLemmas
 pub mod Logs
 pub mod Checkpoints

@@ -4,6 +4,7 @@ pub mod Acting
 pub mod Ending
 pub mod Standing
 pub mod Sparing
+pub mod Fronts
 pub mod Draining
 pub mod Rounding
 pub mod Answering

@@ -1,6 +1,7 @@
 //! The drain: rounds of IN, each region and LOG, until no line is left and nothing is under way.
 ghost use Rattle.drain_laws.specs.ProductGauge.{weight_of_line};
 ghost use Rattle.fp_core.specs.Draining.{DrainStopped, Drained, IsLeftByDrain, IsReachedBy};
+ghost use Rattle.fp_core.specs.Fronts.{HoldsFronts, KeepsFronts};
 ghost use Rattle.fp_core.specs.Relation.{StandsFor, rules_in};
 ghost use Rattle.fp_core.specs.Rounding.{Began, BeganBy, IsQuiet, StoppedAmong, TookTurns, Went, WentBeside, is_at_rest, turns_of, work_ahead};
 ghost use Rattle.fp_core.specs.Sparing.{IsLogSet, Spares};
@@ -160,6 +161,10 @@ impl<'a> Core<'a> {
         ensures reads { ReadsNothing (T.tells_reads site.old) (T.tells_reads site.new)
             (T.bytes_read site.old) (T.bytes_read site.new) }
         ensures spares { T.told site.old → Spares IsLogSet (T.disk site.old) (T.disk site.new) }
+        ensures front { T.told site.old
+            → KeepsFronts (T.disk site.old) self.old.engine.log.gate (T.disk site.new) }
+        ensures front_on { T.told site.old → OnOk result
+            (HoldsFronts (T.disk site.old) self.old.engine.log.gate (T.disk site.new) self.new.engine.log.gate) }
         ensures site { IsContinued T.told T.faults T.holds T.keeps site.old site.new }
         ensures source { ReadsOnly S.told S.left S.faults S.holds S.keeps Part.Messages source.old source.new }
     {
@@ -230,6 +235,10 @@ impl<'a> Core<'a> {
         ensures reads { ReadsNothing (T.tells_reads site.old) (T.tells_reads site.new)
             (T.bytes_read site.old) (T.bytes_read site.new) }
         ensures spares { T.told site.old → Spares IsLogSet (T.disk site.old) (T.disk site.new) }
+        ensures front { T.told site.old
+            → KeepsFronts (T.disk site.old) self.old.engine.log.gate (T.disk site.new) }
+        ensures front_on { T.told site.old → OnOk result
+            (HoldsFronts (T.disk site.old) self.old.engine.log.gate (T.disk site.new) self.new.engine.log.gate) }
         ensures site { IsContinued T.told T.faults T.holds T.keeps site.old site.new }
         ensures source { ReadsOnly S.told S.left S.faults S.holds S.keeps Part.Messages source.old source.new }
     {

@@ -1,4 +1,5 @@
 //! LOG and CKPT: entries are sealed, their reply lines sent, and their terminals freed.
+ghost use Rattle.fp_core.specs.Fronts.{HoldsFronts, KeepsFronts};
 ghost use Rattle.fp_core.specs.Relation.{StandsFor, rules_in};
 ghost use Rattle.fp_core.specs.Sealing.{AreFreed, IsOfLog, replies_of, reply_of, terminals_of};
 ghost use Rattle.fp_core.specs.Sparing.{IsLogSet, Spares};
@@ -142,6 +143,10 @@ impl Engine<'_> {
         ensures reads { ReadsNothing (T.tells_reads site.old) (T.tells_reads site.new)
             (T.bytes_read site.old) (T.bytes_read site.new) }
         ensures spares { T.told site.old → Spares IsLogSet (T.disk site.old) (T.disk site.new) }
+        ensures front { T.told site.old
+            → KeepsFronts (T.disk site.old) self.old.log.gate (T.disk site.new) }
+        ensures front_on { T.told site.old → OnOk result
+            (HoldsFronts (T.disk site.old) self.old.log.gate (T.disk site.new) self.new.log.gate) }
         ensures site { IsContinued T.told T.faults T.holds T.keeps site.old site.new }
     {
         if self.owed.is_empty() {
@@ -180,6 +185,10 @@ impl Engine<'_> {
         ensures reads { ReadsNothing (T.tells_reads site.old) (T.tells_reads site.new)
             (T.bytes_read site.old) (T.bytes_read site.new) }
         ensures spares { T.told site.old → Spares IsLogSet (T.disk site.old) (T.disk site.new) }
+        ensures front { T.told site.old
+            → KeepsFronts (T.disk site.old) self.old.log.gate (T.disk site.new) }
+        ensures front_on { T.told site.old → OnOk result
+            (HoldsFronts (T.disk site.old) self.old.log.gate (T.disk site.new) self.new.log.gate) }
         ensures site { IsContinued T.told T.faults T.holds T.keeps site.old site.new }
     {
         while !self.owed.is_empty() {
@@ -215,6 +224,10 @@ impl Engine<'_> {
         ensures reads { ReadsNothing (T.tells_reads site.old) (T.tells_reads site.new)
             (T.bytes_read site.old) (T.bytes_read site.new) }
         ensures spares { T.told site.old → Spares IsLogSet (T.disk site.old) (T.disk site.new) }
+        ensures front { T.told site.old
+            → KeepsFronts (T.disk site.old) self.old.log.gate (T.disk site.new) }
+        ensures front_on { T.told site.old → OnOk result
+            (HoldsFronts (T.disk site.old) self.old.log.gate (T.disk site.new) self.new.log.gate) }
         ensures site { IsContinued T.told T.faults T.holds T.keeps site.old site.new }
     {
         let Ok(count) = u32::try_from(self.owed.len()) else {

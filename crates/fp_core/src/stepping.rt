@@ -1,4 +1,5 @@
 //! The core: one event of a schedule at a time.
+ghost use Rattle.fp_core.specs.Fronts.{HoldsFronts, KeepsFronts};
 ghost use Rattle.fp_core.specs.Relation.{IsSetup, StandsFor, rules_in};
 ghost use Rattle.fp_core.specs.Sparing.{IsLogSet, IsSealing, Spares};
 ghost use Rattle.fp_core.specs.Standing.{IsCausedBySite, IsCausedBySource, IsContinued, IsEventOf, IsUnbegun, Leaves, MayStop, Origin, StandsAt, StandsBeside, Stepped, SteppedBeside, number_of, seals_of};
@@ -152,6 +153,10 @@ impl<'a> Core<'a> {
         ensures reads { ReadsNothing (T.tells_reads site.old) (T.tells_reads site.new)
             (T.bytes_read site.old) (T.bytes_read site.new) }
         ensures spares { T.told site.old → Spares IsLogSet (T.disk site.old) (T.disk site.new) }
+        ensures front { T.told site.old
+            → KeepsFronts (T.disk site.old) self.old.engine.log.gate (T.disk site.new) }
+        ensures front_on { T.told site.old → OnOk result
+            (HoldsFronts (T.disk site.old) self.old.engine.log.gate (T.disk site.new) self.new.engine.log.gate) }
         ensures untouched { ¬ IsSealing event.now → site.new ≡ site.old }
         ensures site { IsContinued T.told T.faults T.holds T.keeps site.old site.new }
         ensures source { ReadsOnly S.told S.left S.faults S.holds S.keeps Part.Messages source.old source.new }

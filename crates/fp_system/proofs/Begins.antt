@@ -1,8 +1,7 @@
 -- What a core begins with: a history of any log that can be read, and a machine that turns led to.
-use Rattle.std.proofs.Common.{◌≡◌, refl, sym, ap, subst, ◌∙◌, ℕ, zero, suc, List, [], ◌++◌, length, take, drop, append_assoc}
+use Rattle.std.proofs.Common.{◌≡◌, refl, sym, ap, subst, ◌∙◌, ℕ, zero, suc, List, [], ◌++◌, length}
 use Rattle.std.specs.Prelude.{replicate}
-use Rattle.std.proofs.lemmas.List.{append-nil, take_at}
-use Rattle.std.proofs.lemmas.List.Concat.{flat_map-append}
+use Rattle.std.proofs.lemmas.List.{append-nil}
 use Rattle.drain_laws.specs.Live.{IsReached}
 use Rattle.drain_laws.specs.ProductGauge.{gauge_of}
 use Rattle.drain_laws.proofs.InOrder.{rest_ordered}
@@ -23,11 +22,9 @@ use Rattle.fp_model.specs.declared.database.Db.{Db}
 use Rattle.fp_model.specs.declared.database.Msdb.{Msdb}
 use Rattle.fp_model.specs.declared.log.Entry.{Entry}
 use Rattle.fp_model.specs.History.{History, place_of}
-use Rattle.fp_model.specs.LogText.{Front, front_text, group_text, groups_text}
 use Rattle.fp_model.specs.Machine.{Machine, at_rest}
 use Rattle.fp_model.specs.Rules.{Rules}
-use Rattle.log_groups.specs.Images.{IsAtRest, IsLog, before_gate}
-use Rattle.log_groups.proofs.LogImages.{front_of, shape_of}
+use Rattle.log_groups.specs.Images.{IsAtRest}
 
 -- ---- a history of some entries
 
@@ -83,21 +80,3 @@ stands_beside origin h store log lasts disk engine rules lines left is stands ga
   };
   lines_are = sym ahead;
 }
-
--- ---- the bytes before a gate
-
--- a log that goes on by more groups has the bytes from before
-pub front_kept : (front : Front) (old image : List ℕ) (groups more : List (List Entry)) (gate gate2 : ℕ)
-    → IsLog front old groups gate → IsLog front image (groups ++ more) gate2 → take gate image ≡ take gate old
-front_kept front old image groups more gate gate2 first log =
-    let shape = shape_of front groups gate old first in
-    let longer = shape_of front (groups ++ more) gate2 image log in
-    let rest : List ℕ = groups_text more ++ drop gate2 image in
-    let all : image ≡ before_gate front groups ++ rest =
-    longer.text
-    ∙ ap (λ (t : List ℕ). (front_text 1 front ++ t) ++ drop gate2 image) (flat_map-append group_text groups more)
-    ∙ ap (λ (t : List ℕ). t ++ drop gate2 image)
-    (sym (append_assoc (front_text 1 front) (groups_text groups) (groups_text more)))
-    ∙ append_assoc (before_gate front groups) (groups_text more) (drop gate2 image) in
-    ap (take gate) all ∙ take_at (before_gate front groups) rest gate (sym shape.place)
-    ∙ sym (front_of front groups gate old shape)

@@ -40,7 +40,6 @@ use Rattle.fp_system.specs.Parts.{Job, front_for, front_in, rules_for}
 use Rattle.fp_system.specs.Table.{IsOld, IsSpared}
 use Rattle.fp_system.specs.declared.status.Status.{Status}
 use Rattle.fp_system.specs.declared.status.Status.TheVariants.{Done}
-use Rattle.fp_system.proofs.Begins.{front_kept}
 use Rattle.fp_system.proofs.Went.{unchanged_same}
 
 -- ---- a log with one entry more
@@ -213,45 +212,12 @@ moved_not job format earlier answer h h1 undone sent settles run = record {
   moments = weaker (Syncs h 0) (λ s. Syncs h 0 s ⊎ IsMigrating job format earlier h s) h h1 (λ s d. inl d) run;
 }
 
--- ---- the bytes before the gate
+-- ---- a log that can be read
 
 module _ (job : Job) (h h1 h2 : Disk) (contents : (set : ℕ) → h1.contents set ≡ h.contents set)
     (run : Through h h1 (Syncs h 0)) (store : Stored) (state : LogState) (lasts : Numbered) (first_format : ℕ)
-    (back : ReadsBack job.defs (front_in first_format job) h1 store state lasts) (entry : Entry) where
-  -- a log that can be read stays before its gate, whatever its entries are
-  pub kept_before : ((groups : List (List Entry)) → IsAtRest h1 (front_in first_format job) groups state.gate
-      → Through h1 h2 (IsBeforeOrAfter (front_in first_format job) groups state.gate (entry ∷ [])))
-      → (format : ℕ) (groups : List (List Entry)) (gate : ℕ) → HasLog (front_in format job) (h.contents 0) groups gate
-      → Through h h2 (KeepsFront gate h)
-  kept_before crash format groups gate log =
-      let front = front_in first_format job in
-      let there : HasLog (front_in format job) (h1.contents 0) groups gate =
-      subst (λ (l : List ℕ). HasLog (front_in format job) l groups gate) (sym (contents 0)) log in
-      let one : format ≡ first_format =
-      one_format format first_format (front_for job) (h1.contents 0) there.holds.begins back.begins in
-      let here : HasLog front (h1.contents 0) groups gate =
-      subst (λ (f : ℕ). HasLog (front_in f job) (h1.contents 0) groups gate) one there in
-      let its = back.replayed.groups in
-      let same = same_reading (h1.contents 0) (first_gate front) its groups state.gate gate
-      (back.replayed.holds.holds, back.closed) here.holds.reads in
-      let stands : state.gate < length (h1.contents 0) =
-      subst (λ (g : ℕ). g < length (h1.contents 0)) (sym same.1) here.stands in
-      let rest = read_at_rest job.defs front h1 store state lasts back stands in
-      let as_kept : (s : Snapshot) → take state.gate (s.images 0) ≡ take state.gate (h1.contents 0)
-      → KeepsFront gate h s = λ s kept.
-      inr (subst (λ (l : List ℕ). take gate (s.images 0) ≡ take gate l) (contents 0)
-      (subst (λ (g : ℕ). take g (s.images 0) ≡ take g (h1.contents 0)) same.1 kept)) in
-      joined (KeepsFront gate h) h h1 h2
-      (weaker (Syncs h 0) (KeepsFront gate h) h h1 (λ s d. inl d) run)
-      (weaker (IsBeforeOrAfter front its state.gate (entry ∷ [])) (KeepsFront gate h) h1 h2
-      (λ s is. ⊎_elim
-      (λ without. as_kept s (front_kept front (h1.contents 0) (s.images 0) its [] state.gate state.gate rest.log
-      (subst (λ (gs : List (List Entry)). HasLog front (s.images 0) gs state.gate) (sym (append-nil its)) without)))
-      (λ more. as_kept s (front_kept front (h1.contents 0) (s.images 0) its ((entry ∷ []) ∷ []) state.gate
-      (gate_behind state.gate (entry ∷ [])) rest.log more)) is)
-      (crash its rest))
-
-  -- and has the entry of a migration behind its groups, where that was sealed
+    (back : ReadsBack job.defs (front_in first_format job) h1 store state lasts) where
+  -- a log whose gate is there has the entry of a migration behind its groups, where that was sealed
   pub more_at_rest : (answer : Status) (gate_then : ℕ)
       → (answer ≡ Done → (groups : List (List Entry)) → IsAtRest h1 (front_in first_format job) groups state.gate
       → IsAtRest h2 (front_in first_format job) (groups ++ (format_entry state.sealed ∷ []) ∷ []) gate_then)

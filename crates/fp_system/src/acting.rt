@@ -1,4 +1,5 @@
 //! What the commands do on the site, once the parts are read.
+ghost use Rattle.fp_core.specs.Fronts.{KeepsFronts};
 ghost use Rattle.fp_core.specs.Standing.{IsEventOf, Origin};
 ghost use Rattle.fp_exits.specs.Kinds.{has_kind, kinds_of};
 ghost use Rattle.fp_model.specs.History.{History};
@@ -228,6 +229,7 @@ fn run_started<S: Source, T: Site>(
     ensures reads { ReadsNothing (T.tells_reads site.old) (T.tells_reads site.new)
         (T.bytes_read site.old) (T.bytes_read site.new) }
     ensures others { T.told site.old → Spares IsLog (T.disk site.old) (T.disk site.new) }
+    ensures front { T.told site.old → KeepsFronts (T.disk site.old) started.log.gate (T.disk site.new) }
     ensures source { IsContinued S.told S.faults S.holds S.keeps source.old source.new }
     ensures site { IsContinued T.told T.faults T.holds T.keeps site.old site.new }
 {
@@ -338,6 +340,7 @@ fn seal_format<T: Site>(alloc: Global, site: &mut T, log: &mut Log) -> Result<()
     ensures durable { (front : Front) (groups : ListOf (ListOf EntryOf)) → T.told site.old
         → IsAtRest (T.disk site.old) front groups log.old.gate → OnOk result
         (IsAtRest (T.disk site.new) front (groups ++ (format_entry log.old.sealed ∷ []) ∷ []) log.new.gate) }
+    ensures front { T.told site.old → KeepsFronts (T.disk site.old) log.old.gate (T.disk site.new) }
     ensures only { T.told site.old → OnlyOn 0 (T.disk site.old) (T.disk site.new) }
     ensures reads { ReadsNothing (T.tells_reads site.old) (T.tells_reads site.new)
         (T.bytes_read site.old) (T.bytes_read site.new) }

@@ -1,5 +1,6 @@
 //! Takes the events of a schedule, drains, and closes.
 ghost use Rattle.fp_core.specs.Draining.{IsReachedBy};
+ghost use Rattle.fp_core.specs.Fronts.{HoldsFronts, KeepsFronts};
 ghost use Rattle.fp_core.specs.Relation.{rules_in};
 ghost use Rattle.fp_core.specs.Sparing.{IsLogSet, Spares};
 ghost use Rattle.fp_core.specs.Standing.{IsCausedBySite, IsCausedBySource, IsContinued, IsEventOf, Origin, StandsBeside, number_of};
@@ -65,6 +66,10 @@ fn take_events<T: Site, S: Source>(
     ensures reads { ReadsNothing (T.tells_reads site.old) (T.tells_reads site.new)
         (T.bytes_read site.old) (T.bytes_read site.new) }
     ensures spares { T.told site.old → Spares IsLogSet (T.disk site.old) (T.disk site.new) }
+    ensures front { T.told site.old
+        → KeepsFronts (T.disk site.old) core.old.engine.log.gate (T.disk site.new) }
+    ensures front_on { T.told site.old → OnOk result (HoldsFronts (T.disk site.old) core.old.engine.log.gate
+        (T.disk site.new) core.new.engine.log.gate) }
     ensures site { IsContinued T.told T.faults T.holds T.keeps site.old site.new }
     ensures source { ReadsOnly S.told S.left S.faults S.holds S.keeps Part.Messages source.old source.new }
 {
@@ -128,6 +133,8 @@ pub fn run_schedule<T: Site, S: Source>(
     ensures reads { ReadsNothing (T.tells_reads site.old) (T.tells_reads site.new)
         (T.bytes_read site.old) (T.bytes_read site.new) }
     ensures spares { T.told site.old → Spares IsLogSet (T.disk site.old) (T.disk site.new) }
+    ensures front { T.told site.old
+        → KeepsFronts (T.disk site.old) core.old.engine.log.gate (T.disk site.new) }
     ensures site { IsContinued T.told T.faults T.holds T.keeps site.old site.new }
     ensures source { ReadsOnly S.told S.left S.faults S.holds S.keeps Part.Messages source.old source.new }
 {

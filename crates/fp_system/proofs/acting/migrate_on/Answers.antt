@@ -19,10 +19,11 @@ use Rattle.fp_system.specs.declared.status.Status.{Status}
 use Rattle.fp_system.specs.declared.status.Status.TheVariants.{Done, NoMemory, ReadFault, SiteFault}
 use Rattle.fp_system.proofs.CauseLemmas.{fault_by_site, one_err, site_since}
 use Rattle.fp_system.proofs.Due.{fault_not_done, is_good, not_spared}
-use Rattle.fp_system.proofs.Migrations.{Seals, kept_before, migrated_not, more_at_rest, moved, moved_not}
+use Rattle.fp_system.proofs.Migrations.{Seals, migrated_not, more_at_rest, moved, moved_not}
 use Rattle.fp_system.proofs.OldLogs.{sound_old_only}
 use Rattle.fp_system.proofs.Restarted.{its_back, new_told, old_told, sound_for, stands_for}
 use Rattle.fp_system.proofs.SentTexts.{due_by_log}
+use Rattle.fp_system.proofs.Runs.{kept_front}
 use Rattle.fp_system.proofs.acting.migrate_on.Goals as goal
 
 pub returns-in-Err-clause-due : goal.returns-in-Err-clause-due
@@ -164,13 +165,12 @@ returns-in-Ok-seal_format-clause-migrated g c t =
       spares = λ why. absurd (not_spared setup is (h.contents 0) begun (c.in-Ok.ensures.readable t) why);
       stays = λ new. absurd (new first);
       others = spares_on IsLog h h1 h2 law1 (spares_syncs h h1 contents crash) (spares_only h1 h2 law1 only);
-      keeps = kept_before job h h1 h2 contents crash store state lasts state.front_format
-          (its_back setup is h h1 contents store state lasts reads) entry
-          (λ groups rest. c.seal_format.ensures.crash (front_in state.front_format job) groups t1 rest);
+      keeps = kept_front job h h1 h2 contents crash store state lasts state.front_format
+          (its_back setup is h h1 contents store state lasts reads) (c.seal_format.ensures.front t1);
       unsent = only.now.sent ∙ sent;
       whole = λ format groups gate log was done.
           more_at_rest job h h1 h2 contents crash store state lasts state.front_format
-          (its_back setup is h h1 contents store state lasts reads) entry Done c.seal_format.new.log.gate
+          (its_back setup is h h1 contents store state lasts reads) Done c.seal_format.new.log.gate
           (λ done its rest. c.in-Ok-seal_format.ensures.durable (front_in state.front_format job) its t1 rest)
           format groups gate log refl;
       goes = λ format earlier safe was.
@@ -255,9 +255,8 @@ returns-clause-migrated g c t =
       spares = λ why. absurd (not_spared setup is (h.contents 0) begun (c.in-Ok.ensures.readable t) why);
       stays = λ new. absurd (new first);
       others = spares_on IsLog h h1 h2 law1 (spares_syncs h h1 contents crash) (spares_only h1 h2 law1 only);
-      keeps = kept_before job h h1 h2 contents crash store state lasts state.front_format
-          (its_back setup is h h1 contents store state lasts reads) entry
-          (λ groups rest. c.seal_format.ensures.crash (front_in state.front_format job) groups t1 rest);
+      keeps = kept_front job h h1 h2 contents crash store state lasts state.front_format
+          (its_back setup is h h1 contents store state lasts reads) (c.seal_format.ensures.front t1);
       unsent = only.now.sent ∙ sent;
       whole = λ format groups gate log was done.
           absurd (subst MayStandIn done (stands_in c.in-Err-seal_format.fault

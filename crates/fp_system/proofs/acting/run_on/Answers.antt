@@ -7,8 +7,6 @@ use Rattle.fp_model.specs.Messages.{lines_of}
 use Rattle.fp_source.specs.declared.part.Part.TheVariants as part
 use Rattle.log_groups.specs.Images.{BeginsFor, HoldsFor, as_front}
 use Rattle.fp_system.specs.Answers.{MayStandIn}
-use Rattle.fp_site.specs.Moments.{Through}
-use Rattle.fp_site.proofs.Runs.{started}
 use Rattle.fp_system.specs.Causes.{IsCaused}
 use Rattle.fp_system.specs.Gives.{Went}
 use Rattle.fp_system.specs.Courses.{input}
@@ -141,14 +139,8 @@ returns-clause-ran g c s t =
     (λ why. absurd (not_spared setup is (h.contents 0) begun (c.in-Ok.ensures.readable t) why))
     (λ first. absurd (second first))
     (spares_on IsLog h h1 h2 law1 (spares_syncs h h1 contents crash) (c.run_started.ensures.others t1))
-    (λ format groups gate log.
-    kept_front job given answer h h1 h2 law1 contents crash store state lasts state.front_format
-    (its_back setup is h h1 contents store state lasts reads)
-    (λ origin history begun.
-    ⊎_elim (λ on. inl on)
-    (λ none. inr (subst (λ (x : _). Through h1 (g.T.Site.disk x) h1.may_leave) (sym none.1)
-    (started h1.may_leave h1 law1 (λ snapshot left. left))))
-    (c.run_started.ensures.ran origin history s t1 begun)) format groups gate log)
+    (kept_front job h h1 h2 contents crash store state lasts state.front_format
+    (its_back setup is h h1 contents store state lasts reads) (c.run_started.ensures.front t1))
     (λ format earlier safe new.
     let found = stands_for setup is format h1 earlier store state lasts
     (c.in-Ok.ensures.sound format setup.scripts.scripts earlier t

@@ -22,6 +22,7 @@ use Rattle.fp_core.proofs.Onwards.{reads_nothing_none}
 use Rattle.fp_system.specs.Causes.{IsCaused}
 use Rattle.fp_system.proofs.CauseLemmas.{stop_by_site, stop_by_source}
 use Rattle.fp_system.proofs.Ended.{ended_done, ended_early}
+use Rattle.fp_core.proofs.FrontLemmas.{fronts_from, fronts_none}
 use Rattle.fp_core.proofs.SparingLemmas.{spares_none}
 use Rattle.fp_system.proofs.acting.run_started.Goals as goal
 
@@ -144,3 +145,19 @@ returns-clause-line g c number s e =
     ap (option_map number_of) (sym (c.in-Ok.ensures.fault left))
     ∙ c.in-Err-run_schedule.ensures.line s number
     (ap (λ why. Err why) (stop_line c.in-Err-run_schedule.stop number (sym c.from.ensures ∙ e)))
+
+-- ---- what stands in front of the gate
+
+pub returns-in-Err-clause-front : goal.returns-in-Err-clause-front
+returns-in-Err-clause-front g c t =
+    fronts_none (g.T.Site.disk c.args.site.now) c.args.started.log.gate (g.met.T.Site.lawful c.args.site.now t)
+
+pub returns-in-Ok-run_schedule-clause-front : goal.returns-in-Ok-run_schedule-clause-front
+returns-in-Ok-run_schedule-clause-front g c t =
+    fronts_from (g.T.Site.disk c.args.site.now) (g.T.Site.disk c.run_schedule.new.site) c.args.started.log.gate
+    c.in-Ok.core.engine.log.gate c.in-Ok.ensures.gate (c.run_schedule.ensures.front t)
+
+pub returns-clause-front : goal.returns-clause-front
+returns-clause-front g c t =
+    fronts_from (g.T.Site.disk c.args.site.now) (g.T.Site.disk c.run_schedule.new.site) c.args.started.log.gate
+    c.in-Ok.core.engine.log.gate c.in-Ok.ensures.gate (c.run_schedule.ensures.front t)

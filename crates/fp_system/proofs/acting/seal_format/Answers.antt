@@ -1,4 +1,5 @@
 use Rattle.std.proofs.Common.{◌≡◌, inl, inr, refl, sym, ap, subst, ℕ, List, [], ◌∷◌, take}
+use Rattle.fp_core.proofs.FrontLemmas.{fronts_from, fronts_none, fronts_sealing}
 use Rattle.fp_core.proofs.Onwards.{reads_nothing_none}
 use Rattle.fp_model.specs.LogText.{Front}
 use Rattle.fp_model.specs.declared.log.Entry.{Entry}
@@ -72,3 +73,23 @@ returns-in-Ok-clause-durable g c front groups t rest =
     (subst (IsAtRest (g.T.Site.disk c.args.site.now) front groups) (sym c.append_format.ensures.gate) rest) in
     subst (λ (es : List Entry). IsAtRest (g.T.Site.disk c.seal.new.site) front (with_group groups es)
     c.seal.new.self.gate) (ap (take 1) c.in_ok-append_format.ensures.entry) one
+
+pub returns-in_err-append_format-clause-front : goal.returns-in_err-append_format-clause-front
+returns-in_err-append_format-clause-front g c t =
+    fronts_none (g.T.Site.disk c.args.site.now) c.args.log.now.gate (g.met.T.Site.lawful c.args.site.now t)
+
+pub returns-in-Ok-clause-front : goal.returns-in-Ok-clause-front
+returns-in-Ok-clause-front g c t =
+    let old = g.T.Site.disk c.args.site.now in
+    let new = g.T.Site.disk c.seal.new.site in
+    let gate = c.append_format.new.log.gate in
+    fronts_from old new c.args.log.now.gate gate c.append_format.ensures.gate
+    (fronts_sealing old new gate c.seal.new.self.gate (λ durable long. c.seal.ensures.front t durable long))
+
+pub returns-in-Err-clause-front : goal.returns-in-Err-clause-front
+returns-in-Err-clause-front g c t =
+    let old = g.T.Site.disk c.args.site.now in
+    let new = g.T.Site.disk c.seal.new.site in
+    let gate = c.append_format.new.log.gate in
+    fronts_from old new c.args.log.now.gate gate c.append_format.ensures.gate
+    (fronts_sealing old new gate c.seal.new.self.gate (λ durable long. c.seal.ensures.front t durable long))

@@ -3,6 +3,8 @@ use Rattle.fp_site.specs.Moments.{Through}
 use Rattle.fp_source.specs.declared.part.Part.TheVariants as part
 use Rattle.fp_core.specs.Relation.{rules_in}
 use Rattle.fp_core.specs.Sparing.{IsLogSet, Spares}
+use Rattle.fp_core.specs.Fronts.{KeepsFronts}
+use Rattle.fp_core.proofs.FrontLemmas.{fronts_on}
 use Rattle.fp_core.proofs.Rounds.{if_err_from}
 use Rattle.fp_core.proofs.SparingLemmas.{spares_on}
 use Rattle.schedule_runs.specs.Standing.{IsDone, IsLeftOnWay, IsStopped}
@@ -51,6 +53,13 @@ returns-in_err-drain-clause-spares g c told =
     spares_on IsLogSet (g.T.Site.disk c.args.site.now) (g.T.Site.disk c.take_events.new.site)
     (g.T.Site.disk c.drain.new.site) (g.met.T.Site.lawful c.take_events.new.site told1)
     (c.take_events.ensures.spares told) (c.drain.ensures.spares told1)
+
+pub returns-in_err-drain-clause-front : goal.returns-in_err-drain-clause-front
+returns-in_err-drain-clause-front g c told =
+    let t = c.take_events.ensures in
+    fronts_on (g.T.Site.disk c.args.site.now) (g.T.Site.disk c.take_events.new.site) (g.T.Site.disk c.drain.new.site)
+    c.args.core.now.engine.log.gate c.take_events.new.core.engine.log.gate (t.front told)
+    (c.in_ok-take_events.ensures.front_on told) (c.drain.ensures.front (t.site.still_told told))
 
 -- ---- the end
 
@@ -107,3 +116,13 @@ returns-clause-spares g c told =
     (spares_on IsLogSet (g.T.Site.disk c.args.site.now) (g.T.Site.disk c.take_events.new.site)
     (g.T.Site.disk c.drain.new.site) (g.met.T.Site.lawful c.take_events.new.site told1)
     (c.take_events.ensures.spares told) (c.drain.ensures.spares told1))
+
+pub returns-clause-front : goal.returns-clause-front
+returns-clause-front g c told =
+    let t = c.take_events.ensures in
+    let disk = g.T.Site.disk c.args.site.now in
+    let gate = c.args.core.now.engine.log.gate in
+    subst (λ s. KeepsFronts disk gate (g.T.Site.disk s)) (sym c.close.ensures.site)
+    (fronts_on disk (g.T.Site.disk c.take_events.new.site) (g.T.Site.disk c.drain.new.site) gate
+    c.take_events.new.core.engine.log.gate (t.front told) (c.in_ok-take_events.ensures.front_on told)
+    (c.drain.ensures.front (t.site.still_told told)))

@@ -7,6 +7,7 @@ use Rattle.fp_core.specs.declared.stop.Stop.{Stop}
 use Rattle.fp_core.specs.Relation.{rules_in}
 use Rattle.fp_core.specs.Sparing.{IsLogSet, IsSealing}
 use Rattle.fp_core.specs.Standing.{Leaves, MayStop, seals_of}
+use Rattle.fp_core.proofs.FrontLemmas.{fronts_none, fronts_on, holds_none, holds_on}
 use Rattle.fp_core.proofs.Onwards.{continued_both, continued_none, reads_nothing_both, reads_nothing_none, reads_only_both, reads_only_none}
 use Rattle.fp_core.proofs.Rounds.{if_err_from}
 use Rattle.fp_core.proofs.SparingLemmas.{spares_none, spares_on}
@@ -28,6 +29,8 @@ loop-event-init g c =
           none_left origin c.args.events.now m disk core.lines core.engine left beside
           (g.met.T.Site.lawful c.args.site.now told);
       spares = λ told. spares_none IsLogSet disk (g.met.T.Site.lawful c.args.site.now told);
+      front = λ told. fronts_none disk core.engine.log.gate (g.met.T.Site.lawful c.args.site.now told);
+      front_on = λ told. holds_none disk core.engine.log.gate core.engine.log.gate refl;
       fair = λ tells. refl;
       rules = refl;
       defs = refl;
@@ -84,6 +87,12 @@ loop-event-preserved g c =
           let told1 = i.site.still_told told in
           spares_on IsLogSet disk disk1 disk2 (g.met.T.Site.lawful c.loop-event.site told1) (i.spares told)
           (one.spares told1);
+      front = λ told.
+          fronts_on disk disk1 disk2 core.engine.log.gate mid.engine.log.gate (i.front told) (i.front_on told)
+          (one.front (i.site.still_told told));
+      front_on = λ told.
+          holds_on disk disk1 disk2 core.engine.log.gate mid.engine.log.gate new.engine.log.gate (i.front_on told)
+          (c.in_ok-step.ensures.front_on (i.site.still_told told));
       fair = λ tells. c.in_ok-step.ensures.fair (i.source.stays_told tells) ∙ i.fair tells;
       rules = one.rules ∙ i.rules;
       defs = one.defs ∙ i.defs;
@@ -156,6 +165,13 @@ returns-in_err-step-clause-spares g c told =
     spares_on IsLogSet (g.T.Site.disk c.args.site.now) (g.T.Site.disk c.loop-event.site)
     (g.T.Site.disk c.step.new.site) (g.met.T.Site.lawful c.loop-event.site told1)
     (c.loop-event.invariant.spares told) (c.step.ensures.spares told1)
+
+pub returns-in_err-step-clause-front : goal.returns-in_err-step-clause-front
+returns-in_err-step-clause-front g c told =
+    let i = c.loop-event.invariant in
+    fronts_on (g.T.Site.disk c.args.site.now) (g.T.Site.disk c.loop-event.site) (g.T.Site.disk c.step.new.site)
+    c.args.core.now.engine.log.gate c.loop-event.core.engine.log.gate (i.front told) (i.front_on told)
+    (c.step.ensures.front (i.site.still_told told))
 
 -- ---- the end
 

@@ -6,6 +6,7 @@ use Rattle.fp_source.specs.Lines.{fault_ahead}
 use Rattle.fp_source.specs.Source.{ReadsOnly}
 use Rattle.fp_source.specs.declared.part.Part.TheVariants as part
 use Rattle.fp_core.specs.Draining.{IsReachedBy}
+use Rattle.fp_core.specs.Fronts.{HoldsFronts, KeepsFronts}
 use Rattle.fp_core.specs.Relation.{rules_in}
 use Rattle.fp_core.specs.Sparing.{IsLogSet, Spares}
 use Rattle.fp_core.specs.Standing.{IsContinued, Origin, StandsBeside}
@@ -31,6 +32,10 @@ invariant-loop-event g l = record {
       (IsLeftOnWay origin l.initial.core.engine.defs.now (rules_in l.initial.core.engine) l.events m
       (g.T.Site.disk l.initial.site));
   spares : g.T.Site.told l.initial.site → Spares IsLogSet (g.T.Site.disk l.initial.site) (g.T.Site.disk l.site);
+  front : g.T.Site.told l.initial.site
+      → KeepsFronts (g.T.Site.disk l.initial.site) l.initial.core.engine.log.gate (g.T.Site.disk l.site);
+  front_on : g.T.Site.told l.initial.site → HoldsFronts (g.T.Site.disk l.initial.site)
+      l.initial.core.engine.log.gate (g.T.Site.disk l.site) l.core.engine.log.gate;
   fair : g.S.Source.told l.initial.source → fault_ahead l.core.lines (g.S.Source.left l.source part.Messages)
       ≡ fault_ahead l.initial.core.lines (g.S.Source.left l.initial.source part.Messages);
   rules : rules_in l.core.engine ≡ rules_in l.initial.core.engine;

@@ -1,8 +1,9 @@
-use Rattle.std.proofs.Common.{◌≡◌, arith, ◌≤◌, ◌++◌, length, take}
+use Rattle.std.proofs.Common.{◌≡◌, refl, arith, ◌≤◌, ◌++◌, length, take}
 use Rattle.std.proofs.lemmas.Grind.{common_steps}
 use Rattle.fp_core.specs.Relation.{rules_in}
 use Rattle.fp_core.specs.Sealing.{replies_of}
 use Rattle.fp_core.specs.Sparing.{IsLogSet}
+use Rattle.fp_core.proofs.FrontLemmas.{fronts_none, fronts_on, fronts_sealing, fronts_sent, holds_none, holds_on, holds_sealed, holds_sent}
 use Rattle.fp_core.proofs.Logs.{halts, rest_behind, sent_behind, tells}
 use Rattle.fp_core.proofs.Seals.{log_nothing, log_turned}
 use Rattle.fp_core.proofs.SparingLemmas.{spares_none, spares_only, spares_sealed}
@@ -131,3 +132,69 @@ returns-clause-spares g c told =
     (replies_of (take c.in_ok-count.count c.args.self.now.owed.items))
     (g.met.T.Site.lawful c.args.site.now told) (g.met.T.Site.lawful c.seal.new.site told1) (c.seal.ensures.only told)
     (c.tell.ensures.same told1) (c.tell.ensures.crash told1)
+
+-- ---- what stands in front of the gate
+
+pub returns-then-is_empty-clause-front : goal.returns-then-is_empty-clause-front
+returns-then-is_empty-clause-front g c told =
+    fronts_none (g.T.Site.disk c.args.site.now) c.args.self.now.log.gate (g.met.T.Site.lawful c.args.site.now told)
+
+pub returns-then-is_empty-clause-front_on : goal.returns-then-is_empty-clause-front_on
+returns-then-is_empty-clause-front_on g c told =
+    holds_none (g.T.Site.disk c.args.site.now) c.args.self.now.log.gate c.args.self.now.log.gate refl
+
+pub returns-in_err-count-clause-front : goal.returns-in_err-count-clause-front
+returns-in_err-count-clause-front g c told =
+    fronts_sealing (g.T.Site.disk c.args.site.now) (g.T.Site.disk c.seal.new.site) c.args.self.now.log.gate
+    c.seal.new.self.gate (λ durable long. c.seal.ensures.front told durable long)
+
+pub returns-in_err-tell-clause-front : goal.returns-in_err-tell-clause-front
+returns-in_err-tell-clause-front g c told =
+    let told1 = c.seal.ensures.told told in
+    let old = g.T.Site.disk c.args.site.now in
+    let mid = g.T.Site.disk c.seal.new.site in
+    let new = g.T.Site.disk c.tell.new.site in
+    let gate = c.args.self.now.log.gate in
+    let next = c.seal.new.self.gate in
+    let law1 = g.met.T.Site.lawful c.seal.new.site told1 in
+    let law2 = g.met.T.Site.lawful c.tell.new.site (c.tell.ensures.site.still_told told1) in
+    let front = λ durable long. c.seal.ensures.front told durable long in
+    fronts_on old mid new gate next (fronts_sealing old mid gate next front)
+    (holds_sealed old mid gate next front law1 (take c.args.self.now.defs.now.log_group c.args.self.now.log.unsealed)
+    (λ f groups is. c.in_ok-count.ensures.kept f groups told is))
+    (fronts_sent mid new (replies_of (take c.in_ok-count.count c.args.self.now.owed.items)) next law1 law2
+    (c.tell.ensures.same told1) (c.tell.ensures.crash told1))
+
+pub returns-clause-front : goal.returns-clause-front
+returns-clause-front g c told =
+    let told1 = c.seal.ensures.told told in
+    let old = g.T.Site.disk c.args.site.now in
+    let mid = g.T.Site.disk c.seal.new.site in
+    let new = g.T.Site.disk c.tell.new.site in
+    let gate = c.args.self.now.log.gate in
+    let next = c.seal.new.self.gate in
+    let law1 = g.met.T.Site.lawful c.seal.new.site told1 in
+    let law2 = g.met.T.Site.lawful c.tell.new.site (c.tell.ensures.site.still_told told1) in
+    let front = λ durable long. c.seal.ensures.front told durable long in
+    fronts_on old mid new gate next (fronts_sealing old mid gate next front)
+    (holds_sealed old mid gate next front law1 (take c.args.self.now.defs.now.log_group c.args.self.now.log.unsealed)
+    (λ f groups is. c.in_ok-count.ensures.kept f groups told is))
+    (fronts_sent mid new (replies_of (take c.in_ok-count.count c.args.self.now.owed.items)) next law1 law2
+    (c.tell.ensures.same told1) (c.tell.ensures.crash told1))
+
+pub returns-clause-front_on : goal.returns-clause-front_on
+returns-clause-front_on g c told =
+    let told1 = c.seal.ensures.told told in
+    let old = g.T.Site.disk c.args.site.now in
+    let mid = g.T.Site.disk c.seal.new.site in
+    let new = g.T.Site.disk c.tell.new.site in
+    let gate = c.args.self.now.log.gate in
+    let next = c.seal.new.self.gate in
+    let law1 = g.met.T.Site.lawful c.seal.new.site told1 in
+    let law2 = g.met.T.Site.lawful c.tell.new.site (c.tell.ensures.site.still_told told1) in
+    let front = λ durable long. c.seal.ensures.front told durable long in
+    holds_on old mid new gate next next
+    (holds_sealed old mid gate next front law1 (take c.args.self.now.defs.now.log_group c.args.self.now.log.unsealed)
+    (λ f groups is. c.in_ok-count.ensures.kept f groups told is))
+    (holds_sent mid new (replies_of (take c.in_ok-count.count c.args.self.now.owed.items)) next law1 law2
+    (c.tell.ensures.same told1) (c.tell.ensures.crash told1))

@@ -1,9 +1,10 @@
-use Rattle.std.proofs.Common.{◌≡◌, arith, ◌-◌, ◌≤◌, length}
+use Rattle.std.proofs.Common.{◌≡◌, refl, arith, ◌-◌, ◌≤◌, length}
 use Rattle.std.proofs.lemmas.Grind.{common_steps}
 use Rattle.fp_model.specs.History.{place_of}
 use Rattle.fp_core.specs.Relation.{rules_in}
 use Rattle.fp_core.specs.Sparing.{IsLogSet}
 use Rattle.fp_core.proofs.Checkpoints.{ckpt_nothing, ckpt_turned}
+use Rattle.fp_core.proofs.FrontLemmas.{fronts_none, holds_none}
 use Rattle.fp_core.proofs.SparingLemmas.{spares_none}
 use Rattle.fp_core.proofs.Steps.{left_alone}
 use Rattle.fp_core.proofs.engine.Engine.seal_all.Goals as goal
@@ -51,3 +52,15 @@ returns-in_default-clause-spares g c told =
 pub returns-then-count-eq0-clause-spares : goal.returns-then-count-eq0-clause-spares
 returns-then-count-eq0-clause-spares g c told =
     spares_none IsLogSet (g.T.Site.disk c.args.site.now) (g.met.T.Site.lawful c.args.site.now told)
+
+pub returns-in_default-clause-front : goal.returns-in_default-clause-front
+returns-in_default-clause-front g c told =
+    fronts_none (g.T.Site.disk c.args.site.now) c.args.self.now.log.gate (g.met.T.Site.lawful c.args.site.now told)
+
+pub returns-then-count-eq0-clause-front : goal.returns-then-count-eq0-clause-front
+returns-then-count-eq0-clause-front g c told =
+    fronts_none (g.T.Site.disk c.args.site.now) c.args.self.now.log.gate (g.met.T.Site.lawful c.args.site.now told)
+
+pub returns-then-count-eq0-clause-front_on : goal.returns-then-count-eq0-clause-front_on
+returns-then-count-eq0-clause-front_on g c told =
+    holds_none (g.T.Site.disk c.args.site.now) c.args.self.now.log.gate c.args.self.now.log.gate refl

@@ -5,6 +5,7 @@ use Rattle.fp_model.specs.Machine.{sealed_times}
 use Rattle.fp_core.specs.Relation.{rules_in}
 use Rattle.fp_core.specs.Sparing.{IsLogSet}
 use Rattle.fp_core.proofs.Checkpoints.{all_at, all_sealed, at_step, fewer, leaves_step, sealed_step}
+use Rattle.fp_core.proofs.FrontLemmas.{fronts_none, fronts_on, holds_none, holds_on}
 use Rattle.fp_core.proofs.SparingLemmas.{spares_none, spares_on}
 use Rattle.fp_core.proofs.Steps.{left_alone}
 use Rattle.fp_core.proofs.engine.Engine.seal_rest.Goals as goal
@@ -26,6 +27,8 @@ loop-self-init g c =
       reads = λ set h. (h, refl);
       calm = refl;
       spares = λ told. spares_none IsLogSet disk (g.met.T.Site.lawful c.args.site.now told);
+      front = λ told. fronts_none disk engine.log.gate (g.met.T.Site.lawful c.args.site.now told);
+      front_on = λ told. holds_none disk engine.log.gate engine.log.gate refl;
       site = record { later = omega arith; still_told = λ told. told; reference = refl; kept = λ x h. h };
     }
 
@@ -68,6 +71,12 @@ loop-self-preserved g c =
           let told1 = before.site.still_told told in
           spares_on IsLogSet d0 d1 d2 (g.met.T.Site.lawful c.loop-self.site told1) (before.spares told)
           (one.spares told1);
+      front = λ told.
+          fronts_on d0 d1 d2 first.log.gate old.log.gate (before.front told) (before.front_on told)
+          (one.front (before.site.still_told told));
+      front_on = λ told.
+          holds_on d0 d1 d2 first.log.gate old.log.gate new.log.gate (before.front_on told)
+          (c.in_ok-seal.ensures.front_on (before.site.still_told told));
       site = record {
         later = omega (arith, before.site.later, one.site.later);
         still_told = λ told. one.site.still_told (before.site.still_told told);
@@ -114,3 +123,10 @@ returns-in_err-seal-clause-spares g c told =
     let told1 = c.loop-self.invariant.site.still_told told in
     spares_on IsLogSet (g.T.Site.disk c.args.site.now) (g.T.Site.disk c.loop-self.site) (g.T.Site.disk c.seal.new.site)
     (g.met.T.Site.lawful c.loop-self.site told1) (c.loop-self.invariant.spares told) (c.seal.ensures.spares told1)
+
+pub returns-in_err-seal-clause-front : goal.returns-in_err-seal-clause-front
+returns-in_err-seal-clause-front g c told =
+    let before = c.loop-self.invariant in
+    fronts_on (g.T.Site.disk c.args.site.now) (g.T.Site.disk c.loop-self.site) (g.T.Site.disk c.seal.new.site)
+    c.args.self.now.log.gate c.loop-self.self.log.gate (before.front told) (before.front_on told)
+    (c.seal.ensures.front (before.site.still_told told))

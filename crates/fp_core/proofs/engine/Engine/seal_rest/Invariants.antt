@@ -2,6 +2,7 @@ use Rattle.std.proofs.Common.{◌≡◌, ◌-◌, length}
 use Rattle.fp_model.specs.History.{place_of}
 use Rattle.fp_model.specs.Machine.{Machine}
 use Rattle.fp_site.specs.Site.{ReadsNothing}
+use Rattle.fp_core.specs.Fronts.{HoldsFronts, KeepsFronts}
 use Rattle.fp_core.specs.Relation.{StandsFor, rules_in}
 use Rattle.fp_core.specs.Sparing.{IsLogSet, Spares}
 use Rattle.fp_core.specs.Standing.{IsContinued, Leaves, Origin, StandsAt}
@@ -28,6 +29,10 @@ invariant-loop-self g l = record {
   reads : ReadsNothing (g.T.Site.tells_reads l.initial.site) (g.T.Site.tells_reads l.site)
       (g.T.Site.bytes_read l.initial.site) (g.T.Site.bytes_read l.site);
   spares : g.T.Site.told l.initial.site → Spares IsLogSet (g.T.Site.disk l.initial.site) (g.T.Site.disk l.site);
+  front : g.T.Site.told l.initial.site
+      → KeepsFronts (g.T.Site.disk l.initial.site) l.initial.self.log.gate (g.T.Site.disk l.site);
+  front_on : g.T.Site.told l.initial.site
+      → HoldsFronts (g.T.Site.disk l.initial.site) l.initial.self.log.gate (g.T.Site.disk l.site) l.self.log.gate;
   calm : g.T.Site.faults l.site ≡ g.T.Site.faults l.initial.site;
   site : IsContinued g.T.Site.told g.T.Site.faults g.T.Site.holds g.T.Site.keeps l.initial.site l.site;
 }

@@ -8,6 +8,7 @@ use Rattle.fp_core.specs.Rounding.{Went}
 use Rattle.fp_core.proofs.Bounds.{needs_fewer, with_lines_reached}
 use Rattle.fp_core.proofs.Comings.{came_on, drained_by, moments_none, moments_on, none_come, stopped_on}
 use Rattle.fp_core.proofs.Onwards.{continued_both, continued_none, reads_nothing_both, reads_nothing_none, reads_only_both, reads_only_none}
+use Rattle.fp_core.proofs.FrontLemmas.{fronts_none, fronts_on, holds_none, holds_on}
 use Rattle.fp_core.proofs.SparingLemmas.{spares_none, spares_on}
 use Rattle.fp_core.proofs.Rounds.{if_err_from}
 use Rattle.fp_core.proofs.stepping.Core.drain.Goals as goal
@@ -29,6 +30,8 @@ loop-done-init g c =
           moments_none origin core.engine.defs.now (rules_in core.engine) m disk core.lines
           (g.met.T.Site.lawful c.args.site.now told);
       spares = λ told. spares_none IsLogSet disk (g.met.T.Site.lawful c.args.site.now told);
+      front = λ told. fronts_none disk core.engine.log.gate (g.met.T.Site.lawful c.args.site.now told);
+      front_on = λ told. holds_none disk core.engine.log.gate core.engine.log.gate refl;
       fair = λ tells. refl;
       rules = refl;
       defs = refl;
@@ -140,6 +143,14 @@ loop-done-preserved g c =
           spares_on IsLogSet (g.T.Site.disk c.args.site.now) (g.T.Site.disk c.loop-done.site)
           (g.T.Site.disk c.round.new.site) (g.met.T.Site.lawful c.loop-done.site told1) (i.spares told)
           (c.round.ensures.spares told1);
+      front = λ told.
+          fronts_on (g.T.Site.disk c.args.site.now) (g.T.Site.disk c.loop-done.site) (g.T.Site.disk c.round.new.site)
+          core.engine.log.gate mid.engine.log.gate (i.front told) (i.front_on told)
+          (c.round.ensures.front (i.site.still_told told));
+      front_on = λ told.
+          holds_on (g.T.Site.disk c.args.site.now) (g.T.Site.disk c.loop-done.site) (g.T.Site.disk c.round.new.site)
+          core.engine.log.gate mid.engine.log.gate new.engine.log.gate (i.front_on told)
+          (c.in_ok-round.ensures.front_on (i.site.still_told told));
       fair = λ tells. c.in_ok-round.ensures.fair (i.source.stays_told tells) ∙ i.fair tells;
       rules = c.round.ensures.rules ∙ i.rules;
       defs = c.round.ensures.defs ∙ i.defs;
@@ -172,3 +183,26 @@ returns-then-not-branch-clause-spares g c told =
     let told1 = c.loop-done.invariant.site.still_told told in
     spares_on IsLogSet (g.T.Site.disk c.args.site.now) (g.T.Site.disk c.loop-done.site) (g.T.Site.disk c.round.new.site)
     (g.met.T.Site.lawful c.loop-done.site told1) (c.loop-done.invariant.spares told) (c.round.ensures.spares told1)
+
+-- ---- what stands in front of the gate
+
+pub returns-in_err-round-clause-front : goal.returns-in_err-round-clause-front
+returns-in_err-round-clause-front g c told =
+    let i = c.loop-done.invariant in
+    fronts_on (g.T.Site.disk c.args.site.now) (g.T.Site.disk c.loop-done.site) (g.T.Site.disk c.round.new.site)
+    c.args.self.now.engine.log.gate c.loop-done.self.engine.log.gate (i.front told) (i.front_on told)
+    (c.round.ensures.front (i.site.still_told told))
+
+pub returns-then-not-branch-clause-front : goal.returns-then-not-branch-clause-front
+returns-then-not-branch-clause-front g c told =
+    let i = c.loop-done.invariant in
+    fronts_on (g.T.Site.disk c.args.site.now) (g.T.Site.disk c.loop-done.site) (g.T.Site.disk c.round.new.site)
+    c.args.self.now.engine.log.gate c.loop-done.self.engine.log.gate (i.front told) (i.front_on told)
+    (c.round.ensures.front (i.site.still_told told))
+
+pub returns-then-not-branch-clause-front_on : goal.returns-then-not-branch-clause-front_on
+returns-then-not-branch-clause-front_on g c told =
+    let i = c.loop-done.invariant in
+    holds_on (g.T.Site.disk c.args.site.now) (g.T.Site.disk c.loop-done.site) (g.T.Site.disk c.round.new.site)
+    c.args.self.now.engine.log.gate c.loop-done.self.engine.log.gate c.round.new.self.engine.log.gate
+    (i.front_on told) (c.in_ok-round.ensures.front_on (i.site.still_told told))

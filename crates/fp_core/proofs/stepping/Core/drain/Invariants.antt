@@ -6,6 +6,7 @@ use Rattle.fp_source.specs.Lines.{fault_ahead}
 use Rattle.fp_source.specs.Source.{ReadsOnly}
 use Rattle.fp_source.specs.declared.part.Part.TheVariants as part
 use Rattle.fp_core.specs.Draining.{IsLeftByDrain}
+use Rattle.fp_core.specs.Fronts.{HoldsFronts, KeepsFronts}
 use Rattle.fp_core.specs.Relation.{rules_in}
 use Rattle.fp_core.specs.Rounding.{HasCome, NeedsFewer}
 use Rattle.fp_core.specs.Sparing.{IsLogSet, Spares}
@@ -29,6 +30,10 @@ invariant-loop-done g l = record {
       (IsLeftByDrain origin l.initial.self.engine.defs.now (rules_in l.initial.self.engine) m
       (g.T.Site.disk l.initial.site));
   spares : g.T.Site.told l.initial.site → Spares IsLogSet (g.T.Site.disk l.initial.site) (g.T.Site.disk l.site);
+  front : g.T.Site.told l.initial.site
+      → KeepsFronts (g.T.Site.disk l.initial.site) l.initial.self.engine.log.gate (g.T.Site.disk l.site);
+  front_on : g.T.Site.told l.initial.site → HoldsFronts (g.T.Site.disk l.initial.site)
+      l.initial.self.engine.log.gate (g.T.Site.disk l.site) l.self.engine.log.gate;
   fair : g.S.Source.told l.initial.source → fault_ahead l.self.lines (g.S.Source.left l.source part.Messages)
       ≡ fault_ahead l.initial.self.lines (g.S.Source.left l.initial.source part.Messages);
   rules : rules_in l.self.engine ≡ rules_in l.initial.self.engine;

@@ -10,6 +10,7 @@ use Rattle.fp_core.specs.Relation.{rules_in}
 use Rattle.fp_core.specs.Sparing.{IsLogSet}
 use Rattle.fp_core.specs.Rounding.{TookTurns, WentBeside, turns_of}
 use Rattle.fp_core.proofs.Comings.{before_log, came_off, in_region, in_stands, moments_log, stopped_in, stopped_log, stopped_region, turns_stand, went_on}
+use Rattle.fp_core.proofs.FrontLemmas.{fronts_from, fronts_none, holds_from, holds_none}
 use Rattle.fp_core.proofs.SparingLemmas.{spares_none}
 use Rattle.fp_core.proofs.Rounds.{if_err_from, makes_round}
 use Rattle.fp_core.proofs.stepping.Core.round.Goals as goal
@@ -169,3 +170,41 @@ returns-then-not-branch-clause-spares g c told =
 pub returns-in_err-turn_each-clause-spares : goal.returns-in_err-turn_each-clause-spares
 returns-in_err-turn_each-clause-spares g c told =
     spares_none IsLogSet (g.T.Site.disk c.args.site.now) (g.met.T.Site.lawful c.args.site.now told)
+
+-- ---- what stands in front of the gate
+
+pub returns-in_err-begin_round-clause-front : goal.returns-in_err-begin_round-clause-front
+returns-in_err-begin_round-clause-front g c told =
+    fronts_none (g.T.Site.disk c.args.site.now) c.args.self.now.engine.log.gate
+    (g.met.T.Site.lawful c.args.site.now told)
+
+pub returns-then-not-branch-clause-front : goal.returns-then-not-branch-clause-front
+returns-then-not-branch-clause-front g c told =
+    fronts_none (g.T.Site.disk c.args.site.now) c.args.self.now.engine.log.gate
+    (g.met.T.Site.lawful c.args.site.now told)
+
+pub returns-in_err-turn_each-clause-front : goal.returns-in_err-turn_each-clause-front
+returns-in_err-turn_each-clause-front g c told =
+    fronts_none (g.T.Site.disk c.args.site.now) c.args.self.now.engine.log.gate
+    (g.met.T.Site.lawful c.args.site.now told)
+
+pub returns-then-not-branch-clause-front_on : goal.returns-then-not-branch-clause-front_on
+returns-then-not-branch-clause-front_on g c told =
+    holds_none (g.T.Site.disk c.args.site.now) c.args.self.now.engine.log.gate
+    c.begin_round.new.self.engine.log.gate c.begin_round.ensures.gate
+
+pub returns-in_err-seal-clause-front : goal.returns-in_err-seal-clause-front
+returns-in_err-seal-clause-front g c told =
+    fronts_from (g.T.Site.disk c.args.site.now) (g.T.Site.disk c.seal.new.site) c.args.self.now.engine.log.gate
+    c.turn_each.new.self.log.gate (c.turn_each.ensures.gate ∙ c.begin_round.ensures.gate) (c.seal.ensures.front told)
+
+pub returns-clause-front : goal.returns-clause-front
+returns-clause-front g c told =
+    fronts_from (g.T.Site.disk c.args.site.now) (g.T.Site.disk c.seal.new.site) c.args.self.now.engine.log.gate
+    c.turn_each.new.self.log.gate (c.turn_each.ensures.gate ∙ c.begin_round.ensures.gate) (c.seal.ensures.front told)
+
+pub returns-clause-front_on : goal.returns-clause-front_on
+returns-clause-front_on g c told =
+    holds_from (g.T.Site.disk c.args.site.now) (g.T.Site.disk c.seal.new.site) c.args.self.now.engine.log.gate
+    c.turn_each.new.self.log.gate c.seal.new.self.log.gate
+    (c.turn_each.ensures.gate ∙ c.begin_round.ensures.gate) (c.in_ok-seal.ensures.front_on told)

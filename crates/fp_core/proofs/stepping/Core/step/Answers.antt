@@ -12,6 +12,7 @@ use Rattle.fp_core.specs.Turning.{Turned}
 use Rattle.fp_core.proofs.Places.{if_ok_by}
 use Rattle.fp_core.proofs.Rounds.{on_err_sure}
 use Rattle.fp_core.proofs.Takes.{idle_at}
+use Rattle.fp_core.proofs.FrontLemmas.{fronts_none, holds_none, on_ok_holds}
 use Rattle.fp_core.proofs.SparingLemmas.{spares_none}
 use Rattle.fp_core.proofs.Steps.{ckpt_beside, ckpt_stepped, in_beside, left_alone, log_beside, log_stepped, out_beside, out_turned, region_beside, region_stepped, regions_long, stepped_with}
 use Rattle.fp_core.proofs.stepping.Core.step.Goals as goal
@@ -167,3 +168,39 @@ returns-in-In-clause-spares g c told =
 pub returns-in-Out-clause-spares : goal.returns-in-Out-clause-spares
 returns-in-Out-clause-spares g c told =
     spares_none IsLogSet (g.T.Site.disk c.args.site.now) (g.met.T.Site.lawful c.args.site.now told)
+
+-- ---- what stands in front of the gate
+
+pub returns-in_err-turn-in-Region-clause-front : goal.returns-in_err-turn-in-Region-clause-front
+returns-in_err-turn-in-Region-clause-front g c told =
+    fronts_none (g.T.Site.disk c.args.site.now) c.args.self.now.engine.log.gate
+    (g.met.T.Site.lawful c.args.site.now told)
+
+pub returns-in_ok-turn-in-Region-clause-front : goal.returns-in_ok-turn-in-Region-clause-front
+returns-in_ok-turn-in-Region-clause-front g c told =
+    fronts_none (g.T.Site.disk c.args.site.now) c.args.self.now.engine.log.gate
+    (g.met.T.Site.lawful c.args.site.now told)
+
+pub returns-in-In-clause-front : goal.returns-in-In-clause-front
+returns-in-In-clause-front g c told =
+    fronts_none (g.T.Site.disk c.args.site.now) c.args.self.now.engine.log.gate
+    (g.met.T.Site.lawful c.args.site.now told)
+
+pub returns-in-Out-clause-front : goal.returns-in-Out-clause-front
+returns-in-Out-clause-front g c told =
+    fronts_none (g.T.Site.disk c.args.site.now) c.args.self.now.engine.log.gate
+    (g.met.T.Site.lawful c.args.site.now told)
+
+pub returns-in_ok-turn-in-Region-clause-front_on : goal.returns-in_ok-turn-in-Region-clause-front_on
+returns-in_ok-turn-in-Region-clause-front_on g c told =
+    holds_none (g.T.Site.disk c.args.site.now) c.args.self.now.engine.log.gate c.turn.new.self.log.gate
+    c.turn.ensures.gate
+
+pub returns-in-In-clause-front_on : goal.returns-in-In-clause-front_on
+returns-in-In-clause-front_on g c told =
+    on_ok_holds c.read_line.result (g.T.Site.disk c.args.site.now) c.args.self.now.engine.log.gate
+    c.read_line.new.self.engine.log.gate c.read_line.ensures.gate
+
+pub returns-in-Out-clause-front_on : goal.returns-in-Out-clause-front_on
+returns-in-Out-clause-front_on g c told =
+    holds_none (g.T.Site.disk c.args.site.now) c.args.self.now.engine.log.gate c.args.self.now.engine.log.gate refl
