@@ -1,6 +1,6 @@
 //! What the commands do on the site, once the parts are read.
 ghost use Rattle.fp_core.specs.Fronts.{KeepsFronts};
-ghost use Rattle.fp_core.specs.Standing.{IsEventOf, Origin};
+ghost use Rattle.fp_core.specs.Standing.{IsContinued, IsEventOf, Origin};
 ghost use Rattle.fp_exits.specs.Kinds.{has_kind, kinds_of};
 ghost use Rattle.fp_model.specs.History.{History};
 ghost use Rattle.fp_model.specs.LogText.{Front, first_gate};
@@ -14,7 +14,6 @@ ghost use Rattle.fp_system.specs.Causes.{IsCaused, IsCausedBySite};
 ghost use Rattle.fp_system.specs.Courses.{IsBegun, RanFrom, input};
 ghost use Rattle.fp_core.specs.Sparing.{IsLogSet as IsLog, Spares};
 ghost use Rattle.fp_system.specs.Gives.{Audited, HasNewText, Logged, Migrated, Ran, Shown, format_entry};
-ghost use Rattle.fp_system.specs.Ims.{IsContinued};
 ghost use Rattle.fp_system.specs.Parts.{front_for};
 ghost use Rattle.fp_system.specs.Setups.{IsSetup, job_of};
 ghost use Rattle.fp_system.specs.Table.{ByEntries, ByGroups, ByLog, IsEnd};

@@ -1,4 +1,5 @@
 //! The top call.
+ghost use Rattle.fp_core.specs.Standing.{IsContinued};
 ghost use Rattle.fp_exits.specs.Kinds.{kinds_of};
 ghost use Rattle.fp_model.specs.Messages.{lines_of};
 ghost use Rattle.fp_model.specs.declared.events.Event.{Event};
@@ -6,7 +7,6 @@ ghost use Rattle.fp_source.specs.declared.part.Part.TheVariants as part;
 ghost use Rattle.fp_system.specs.Causes.{IsCaused};
 ghost use Rattle.fp_system.specs.Courses.{input};
 ghost use Rattle.fp_system.specs.Gives.{Audited, Defined, InOrder, IsBeforeSite, Logged, Migrated, Ran, Shown, Took};
-ghost use Rattle.fp_system.specs.Ims.{IsContinued};
 ghost use Rattle.fp_system.specs.Parts.{HasEvents, Job, front_for};
 ghost use Rattle.site_texts.specs.Texts.{ReadsOnce};
 ghost use Rattle.fp_system.specs.Table.{Asks, IsAnswerTo, given};
