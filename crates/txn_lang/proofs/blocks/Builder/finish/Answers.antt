@@ -1,6 +1,6 @@
 use Rattle.std.proofs.Common.{◌∙◌, sym, subst, refl, List}
 use Rattle.std.specs.Prelude.{reverse, is_some}
-use Rattle.txn_lang.specs.declared.blocks.Frame.{Frame}
+use Rattle.txn_lang.specs.declared.standing.Frame.{Frame}
 use Rattle.txn_lang.specs.Building.{HasShape}
 use Rattle.txn_lang.proofs.BlockLemmas.{shape_scripts, nothing_open}
 use Rattle.txn_lang.proofs.blocks.Builder.finish.Goals as goal

@@ -1,6 +1,6 @@
 use Rattle.std.proofs.Common.{◌≡◌, ◌∙◌, ap, refl, ◌∷◌}
 use Rattle.std.specs.Prelude.{reverse}
-use Rattle.txn_lang.specs.declared.blocks.Frame.{Frame}
+use Rattle.txn_lang.specs.declared.standing.Frame.{Frame}
 use Rattle.txn_lang.proofs.BlockLemmas.{shape_open, reverse_push}
 use Rattle.txn_lang.proofs.blocks.Builder.open.Goals as goal
 
