@@ -3,7 +3,7 @@ use Rattle.std.specs.Prelude.{reverse}
 use Rattle.txn_lang.specs.declared.standing.Frame.{Frame}
 use Rattle.txn_lang.specs.Building.{AreFrames, HasShape}
 use Rattle.txn_lang.proofs.BlockLemmas.{shape_close, reverse_push}
-use Rattle.txn_lang.proofs.blocks.Builder.close.Goals as goal
+use Rattle.txn_lang.proofs.standing.Builder.close.Goals as goal
 
 pub returns-in_ok-block-in-Some-clause-built : goal.returns-in_ok-block-in-Some-clause-built
 returns-in_ok-block-in-Some-clause-built c = λ said built.

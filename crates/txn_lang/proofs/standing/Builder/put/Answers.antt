@@ -1,7 +1,7 @@
 use Rattle.std.proofs.Common.{◌∷◌, []}
 use Rattle.txn_lang.specs.Blocks.{none, one}
 use Rattle.txn_lang.proofs.BlockLemmas.{shape_more}
-use Rattle.txn_lang.proofs.blocks.Builder.put.Goals as goal
+use Rattle.txn_lang.proofs.standing.Builder.put.Goals as goal
 
 pub returns-clause-built : goal.returns-clause-built
 returns-clause-built c = λ said built. record {

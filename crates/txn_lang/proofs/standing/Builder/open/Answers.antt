@@ -2,7 +2,7 @@ use Rattle.std.proofs.Common.{◌≡◌, ◌∙◌, ap, refl, ◌∷◌}
 use Rattle.std.specs.Prelude.{reverse}
 use Rattle.txn_lang.specs.declared.standing.Frame.{Frame}
 use Rattle.txn_lang.proofs.BlockLemmas.{shape_open, reverse_push}
-use Rattle.txn_lang.proofs.blocks.Builder.open.Goals as goal
+use Rattle.txn_lang.proofs.standing.Builder.open.Goals as goal
 
 pub returns-clause-built : goal.returns-clause-built
 returns-clause-built c = λ said built.

@@ -4,7 +4,7 @@ use Rattle.txn_lang.specs.declared.standing.Frame.{Frame}
 use Rattle.txn_lang.specs.Blocks.{else_in}
 use Rattle.txn_lang.specs.Building.{AreFrames, HasShape, open_of, turned}
 use Rattle.txn_lang.proofs.BlockLemmas.{shape_turn, reverse_push, choice_in, turned_opening}
-use Rattle.txn_lang.proofs.blocks.Builder.turn.Goals as goal
+use Rattle.txn_lang.proofs.standing.Builder.turn.Goals as goal
 
 pub returns-in_ok-push-in-Some-clause-built : goal.returns-in_ok-push-in-Some-clause-built
 returns-in_ok-push-in-Some-clause-built c = λ said built.

@@ -3,7 +3,7 @@ use Rattle.std.specs.Prelude.{reverse, is_some}
 use Rattle.txn_lang.specs.declared.standing.Frame.{Frame}
 use Rattle.txn_lang.specs.Building.{HasShape}
 use Rattle.txn_lang.proofs.BlockLemmas.{shape_begin, nothing_open}
-use Rattle.txn_lang.proofs.blocks.Builder.begin.Goals as goal
+use Rattle.txn_lang.proofs.standing.Builder.begin.Goals as goal
 
 pub returns-clause-built : goal.returns-clause-built
 returns-clause-built c = λ said built.

@@ -3,7 +3,7 @@ use Rattle.std.specs.Prelude.{reverse, is_some}
 use Rattle.txn_lang.specs.declared.standing.Frame.{Frame}
 use Rattle.txn_lang.specs.Building.{HasShape}
 use Rattle.txn_lang.proofs.BlockLemmas.{shape_scripts, nothing_open}
-use Rattle.txn_lang.proofs.blocks.Builder.finish.Goals as goal
+use Rattle.txn_lang.proofs.standing.Builder.finish.Goals as goal
 
 pub returns-in_ok-with_last-in-None-clause-ok : goal.returns-in_ok-with_last-in-None-clause-ok
 returns-in_ok-with_last-in-None-clause-ok c =
