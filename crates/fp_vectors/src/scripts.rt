@@ -8,7 +8,7 @@
 //!
 //! The first gives definitions a name, and the second reads a text by definitions that were named before.
 ghost use Rattle.std.specs.Prelude.{IsTrue};
-ghost use Rattle.txn_lang.specs.Lookups.{HaveByteNumbers};
+ghost use Rattle.txn_tokens.specs.Lookups.{HaveByteNumbers};
 
 use crate::definitions::{self, Kinds};
 use crate::fault::CaseFault;

@@ -9,10 +9,10 @@ use Rattle.fp_model.specs.declared.scripts.Statement.{Statement}
 use Rattle.fp_model.specs.declared.scripts.Script.{Script}
 use Rattle.txn_lang.specs.declared.line.Line.{Line}
 use Rattle.txn_lang.specs.declared.line.Line.TheVariants as line
-use Rattle.txn_lang.specs.declared.blocks.Block.{Block}
-use Rattle.txn_lang.specs.declared.blocks.Opening.{Opening}
-use Rattle.txn_lang.specs.declared.blocks.Opening.TheVariants as opening
-use Rattle.txn_lang.specs.declared.blocks.Frame.{Frame}
+use Rattle.txn_lang.specs.declared.standing.Block.{Block}
+use Rattle.txn_lang.specs.declared.standing.Opening.{Opening}
+use Rattle.txn_lang.specs.declared.standing.Opening.TheVariants as opening
+use Rattle.txn_lang.specs.declared.standing.Frame.{Frame}
 use Rattle.txn_lang.specs.Blocks.{Open, outermost, unclosed, else_in, AreStatements, none, one, if_end, if_else_end, repeat_end, AreScripts, no_script, script}
 use Rattle.txn_lang.specs.Building.{IsBlock, IsOpening, open_of, kind_of, is_choice, turned, statement_by, opening_line, IsFirst, IsOpened, Covers, HasShape, finished}
 

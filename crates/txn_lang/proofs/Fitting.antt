@@ -28,16 +28,16 @@ use Rattle.fp_model.specs.Messages.{lines_of}
 use Rattle.fp_model.specs.Asking.{cost, full_cost, script_of}
 use Rattle.txn_lang.specs.declared.fault.ScriptFault.{ScriptFault}
 use Rattle.txn_lang.specs.declared.fault.ScriptFault.TheVariants as fault
-use Rattle.txn_lang.specs.declared.fault.LineFault.TheVariants.{Syntax, UnknownName}
+use Rattle.txn_tokens.specs.declared.fault.LineFault.TheVariants.{Syntax, UnknownName}
 use Rattle.txn_lang.specs.declared.line.Keyword.{Keyword}
 use Rattle.txn_lang.specs.declared.line.Keyword.TheVariants as keyword
-use Rattle.txn_lang.specs.declared.token.Token.{Token}
-use Rattle.txn_lang.specs.Readings.{Reading, ◌>>=◌, all_by, ended}
-use Rattle.txn_lang.specs.Tokens.{or_syntax, tokens_of}
-use Rattle.txn_lang.specs.Parts.{word_at, variable_at, operand_at, comparison_at, count_at, key_at, operands_in, ssas_in, fsa_at, fsas_in, fields_in, one_to_255}
-use Rattle.txn_lang.specs.Lookups.{are_known, db_by, db_of, dedb_ssas, get_ssas, has_name, is_msdb, isrt_count, isrt_fields, isrt_ssas, or_unknown, segment_of, types_of}
+use Rattle.txn_tokens.specs.declared.token.Token.{Token}
+use Rattle.txn_tokens.specs.Readings.{Reading, ◌>>=◌, all_by, ended}
+use Rattle.txn_tokens.specs.Tokens.{or_syntax, tokens_of}
+use Rattle.txn_tokens.specs.Parts.{word_at, variable_at, operand_at, comparison_at, count_at, key_at, operands_in, ssas_in, fsa_at, fsas_in, fields_in, one_to_255}
+use Rattle.txn_tokens.specs.Lookups.{are_known, db_by, db_of, dedb_ssas, get_ssas, has_name, is_msdb, isrt_count, isrt_fields, isrt_ssas, or_unknown, segment_of, types_of}
 use Rattle.txn_lang.specs.Suiting.{all_suit, has_types, is_defined, names_new, suits_step}
-use Rattle.txn_lang.specs.declared.line.WrittenSsa.{WrittenSsa}
+use Rattle.txn_tokens.specs.declared.written.WrittenSsa.{WrittenSsa}
 use Rattle.fp_model.specs.Calls.{OnMsdb, OnDedb, Nowhere, dedb_target, target_of}
 use Rattle.fp_model.specs.declared.definitions.Kind.TheVariants.{Fold}
 use Rattle.fp_model.specs.declared.definitions.SegDef.{SegDef}

@@ -1,9 +1,3 @@
-pub mod Runs
-pub mod TokenLemmas
-pub mod ReadingLemmas
-pub mod Shrinking
-pub mod PartLemmas
-pub mod LookupLemmas
 pub mod BlockLemmas
 pub mod LineLemmas
 pub mod TextLemmas

@@ -13,18 +13,18 @@ use Rattle.fp_model.specs.declared.scripts.Statement.TheOpen as statement
 use Rattle.fp_model.specs.declared.scripts.Statement.TheOpen.{Statement-F}
 use Rattle.fp_model.specs.Asking.{statement_cost}
 use Rattle.fp_model.proofs.ProgramLemmas.{statement_cost_roll}
-use Rattle.txn_lang.specs.declared.token.Token.{Token}
-use Rattle.txn_lang.specs.declared.token.Token.TheVariants.{Word, Number, Text, Hash, Field, Sign}
-use Rattle.txn_lang.specs.declared.fault.LineFault.{LineFault}
-use Rattle.txn_lang.specs.declared.fault.LineFault.TheVariants.{Syntax, UnknownName, Memory}
+use Rattle.txn_tokens.specs.declared.token.Token.{Token}
+use Rattle.txn_tokens.specs.declared.token.Token.TheVariants.{Word, Number, Text, Hash, Field, Sign}
+use Rattle.txn_tokens.specs.declared.fault.LineFault.{LineFault}
+use Rattle.txn_tokens.specs.declared.fault.LineFault.TheVariants.{Syntax, UnknownName, Memory}
 use Rattle.txn_lang.specs.declared.line.Keyword.{Keyword}
 use Rattle.txn_lang.specs.declared.line.Keyword.TheVariants as keyword
 use Rattle.txn_lang.specs.declared.line.Line.{Line}
 use Rattle.txn_lang.specs.declared.line.Line.TheVariants as line
-use Rattle.txn_lang.specs.Readings.{Reading, ◌>>=◌, Fails, ended}
-use Rattle.txn_lang.specs.Tokens.{tokens_of}
-use Rattle.txn_lang.specs.Parts.{token_in, count_within, count_of, count_at, word_at, variable_at, operand_at, comparison_at, key_at, operands_in, ssas_in, fsas_in, fields_in}
-use Rattle.txn_lang.specs.Lookups.{are_known, db_of, get_ssas, isrt_ssas, isrt_fields}
+use Rattle.txn_tokens.specs.Readings.{Reading, ◌>>=◌, Fails, ended}
+use Rattle.txn_tokens.specs.Tokens.{tokens_of}
+use Rattle.txn_tokens.specs.Parts.{token_in, count_within, count_of, count_at, word_at, variable_at, operand_at, comparison_at, key_at, operands_in, ssas_in, fsas_in, fields_in}
+use Rattle.txn_tokens.specs.Lookups.{are_known, db_of, get_ssas, isrt_ssas, isrt_fields}
 use Rattle.txn_lang.specs.Statements.{keyword_at, before_fields, from_fields, tran_line, set_rest, set_line, if_line, repeat_line, reply_line, rolb_line, get_line, fld_line, isrt_line, repl_line, dlet_line, line_behind}
 use Rattle.txn_lang.specs.Blocks.{Choice, Loop, Context, begun, within_script, opened, with_open, in_loop, else_in, end_in, stands}
 use Rattle.txn_lang.specs.Grammar.{is_ascii, is_skipped, statement_in, line_in}

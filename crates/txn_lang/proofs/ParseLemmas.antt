@@ -5,7 +5,7 @@ use Rattle.fp_model.specs.declared.scripts.Script.{Script}
 use Rattle.txn_lang.specs.declared.fault.ScriptFault.{ScriptFault}
 use Rattle.txn_lang.specs.declared.fault.ScriptFault.TheVariants as fault
 use Rattle.txn_lang.specs.declared.line.Line.{Line}
-use Rattle.txn_lang.specs.declared.blocks.Builder.{Builder}
+use Rattle.txn_lang.specs.declared.standing.Builder.{Builder}
 use Rattle.txn_lang.specs.Blocks.{AreScripts, no_script, script}
 use Rattle.txn_lang.specs.Grammar.{IsWritten, HasFault, is_open}
 use Rattle.txn_lang.specs.Building.{Refuses, ReadsText, Finishes, IsLeftOpen, context_of}

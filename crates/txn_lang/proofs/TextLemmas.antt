@@ -8,11 +8,11 @@ use Rattle.std.proofs.lemmas.List.Splits.{slice_split_first}
 use Rattle.std.proofs.lemmas.Bool.Decides.{nat_tests}
 use Rattle.fp_model.specs.declared.definitions.Defs.{Defs}
 use Rattle.fp_model.specs.Messages.{lines_of}
-use Rattle.txn_lang.specs.declared.fault.LineFault.{LineFault}
-use Rattle.txn_lang.specs.declared.fault.LineFault.TheVariants.{Syntax, UnknownName, Memory}
+use Rattle.txn_tokens.specs.declared.fault.LineFault.{LineFault}
+use Rattle.txn_tokens.specs.declared.fault.LineFault.TheVariants.{Syntax, UnknownName, Memory}
 use Rattle.txn_lang.specs.declared.fault.ScriptFault.{ScriptFault}
 use Rattle.txn_lang.specs.declared.line.Line.{Line}
-use Rattle.txn_lang.specs.Readings.{Reading, Fails}
+use Rattle.txn_tokens.specs.Readings.{Reading, Fails}
 use Rattle.txn_lang.specs.Blocks.{Context}
 use Rattle.txn_lang.specs.Grammar.{Read, line_in, lines_in, at_line, in_front, and_then, numbered}
 use Rattle.txn_lang.specs.Building.{Refuses}

@@ -7,17 +7,17 @@ use Rattle.fp_model.specs.declared.scripts.Script.{Script}
 use Rattle.fp_model.specs.Asking.{statement_cost, cost}
 use Rattle.txn_lang.specs.declared.line.Line.{Line}
 use Rattle.txn_lang.specs.declared.line.Line.TheVariants as line
-use Rattle.txn_lang.specs.declared.blocks.Block.{Block}
-use Rattle.txn_lang.specs.declared.blocks.Opening.{Opening}
-use Rattle.txn_lang.specs.declared.blocks.Opening.TheVariants as opening
-use Rattle.txn_lang.specs.declared.blocks.Frame.{Frame}
-use Rattle.txn_lang.specs.declared.blocks.Builder.{Builder}
+use Rattle.txn_lang.specs.declared.standing.Block.{Block}
+use Rattle.txn_lang.specs.declared.standing.Opening.{Opening}
+use Rattle.txn_lang.specs.declared.standing.Opening.TheVariants as opening
+use Rattle.txn_lang.specs.declared.standing.Frame.{Frame}
+use Rattle.txn_lang.specs.declared.standing.Builder.{Builder}
 use Rattle.fp_model.specs.declared.definitions.Defs.{Defs}
-use Rattle.txn_lang.specs.declared.fault.LineFault.TheVariants.{Syntax, UnknownName}
+use Rattle.txn_tokens.specs.declared.fault.LineFault.TheVariants.{Syntax, UnknownName}
 use Rattle.txn_lang.specs.declared.line.Keyword.{Keyword}
-use Rattle.txn_lang.specs.Readings.{Reading, ◌>>=◌}
-use Rattle.txn_lang.specs.Tokens.{tokens_of}
-use Rattle.txn_lang.specs.Lookups.{are_known}
+use Rattle.txn_tokens.specs.Readings.{Reading, ◌>>=◌}
+use Rattle.txn_tokens.specs.Tokens.{tokens_of}
+use Rattle.txn_tokens.specs.Lookups.{are_known}
 use Rattle.txn_lang.specs.Statements.{keyword_at, line_behind}
 use Rattle.txn_lang.specs.declared.fault.ScriptFault.{ScriptFault}
 use Rattle.txn_lang.specs.declared.fault.ScriptFault.TheVariants as fault

@@ -42,34 +42,3 @@ impl<T: Drop> From<AllocFailed<T>> for ScriptFault {
         ScriptFault::Memory
     }
 }
-
-/// Why a line is not read.
-#[derive(Clone, Copy)]
-pub(crate) enum LineFault {
-    /// It is no statement, or can't stand where it does.
-    Syntax,
-    /// It names something that isn't defined.
-    UnknownName,
-    /// There was no memory.
-    Memory,
-}
-
-impl From<AllocError> for LineFault {
-    ghost use Rattle.txn_lang.specs.declared.fault.LineFault.TheVariants as fault;
-
-    ghost from_gives = { λ _ e. e ≡ fault.Memory };
-
-    fn from(_: AllocError) -> LineFault {
-        LineFault::Memory
-    }
-}
-
-impl<T: Drop> From<AllocFailed<T>> for LineFault {
-    ghost use Rattle.txn_lang.specs.declared.fault.LineFault.TheVariants as fault;
-
-    ghost from_gives = { λ _ e. e ≡ fault.Memory };
-
-    fn from(_: AllocFailed<T>) -> LineFault {
-        LineFault::Memory
-    }
-}

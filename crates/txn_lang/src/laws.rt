@@ -7,7 +7,7 @@ ghost use Rattle.fp_model.specs.FitCalls.{are_fit};
 ghost use Rattle.fp_model.specs.Asking.{full_cost};
 ghost use Rattle.fp_model.specs.WellFormed.{AreDefs};
 ghost use Rattle.txn_lang.specs.declared.fault.ScriptFault.{ScriptFault};
-ghost use Rattle.txn_lang.specs.Lookups.{HaveByteNumbers};
+ghost use Rattle.txn_tokens.specs.Lookups.{HaveByteNumbers};
 ghost use Rattle.txn_lang.specs.Grammar.{AreScriptsOf, HasFault};
 ghost use Rattle.txn_lang.specs.Suiting.{all_suit};
 

@@ -12,26 +12,22 @@
 //!     operand    = number | text | "#" digit | "IO." field | "STATUS" | "FSAS" | variable
 //!     ssa        = segment [ "(" operand ")" ]  |  "KEY(" operand ")" on a main storage database
 //!
-//! Each statement line has a line to itself. Blank lines and those that begin with `*` are skipped. The definitions are
-//! in `specs/`; docs/MODEL.md, 'The script language', says them in plain words.
+//! Each statement line has a line to itself. Blank lines and those that begin with `*` are skipped. Tokens, and the parts
+//! of statements, are read by `txn_tokens`. The definitions are in `specs/`, here and there; docs/MODEL.md, 'The script
+//! language', says them in plain words.
 #![tactic(auto)]
 
 mod blocks;
 mod fault;
 mod laws;
 mod line;
-mod lookups;
 mod parsing;
-mod parts;
 mod reader;
-mod rows;
 mod scripts;
+mod standing;
 mod statements;
-mod token;
-mod tokens;
 
 pub use fault::ScriptFault;
 pub use laws::{a_text_has_one_meaning, definitions_have_byte_numbers, what_was_read_fits};
 pub use parsing::parse;
-pub use rows::{a_field_call_has_these_tokens, tokens_need_no_blanks};
 pub use scripts::Scripts;

@@ -39,10 +39,3 @@ pub(crate) enum Line {
     /// A statement that has its line to itself.
     Whole(Statement),
 }
-
-/// A segment search argument as it is written: a word, and a key in parentheses where there is one.
-#[derive(Drop)]
-pub(crate) struct WrittenSsa {
-    pub(crate) name: Name,
-    pub(crate) key: Option<Operand>,
-}

@@ -1,6 +1,6 @@
 //! Reads a text as scripts.
 ghost use Rattle.std.specs.Prelude.{◌≡◌, IfOk, IfErr};
-ghost use Rattle.txn_lang.specs.Lookups.{HaveByteNumbers};
+ghost use Rattle.txn_tokens.specs.Lookups.{HaveByteNumbers};
 ghost use Rattle.txn_lang.specs.Grammar.{AreScriptsOf, HasFault};
 ghost use Rattle.txn_lang.specs.Building.{Refuses};
 

@@ -3,17 +3,17 @@ ghost use Rattle.std.specs.Prelude.{◌≡◌, ◌∷◌, ◌≤◌, ◌<◌, �
 ghost use Rattle.std.specs.List.{list_all};
 ghost use Rattle.std.specs.Str.Lines.{strip_carriage_return};
 ghost use Rattle.fp_model.specs.Messages.{lines_of};
-ghost use Rattle.txn_lang.specs.Readings.{Fails};
-ghost use Rattle.txn_lang.specs.Lookups.{HaveByteNumbers};
+ghost use Rattle.txn_tokens.specs.Readings.{Fails};
+ghost use Rattle.txn_tokens.specs.Lookups.{HaveByteNumbers};
 ghost use Rattle.txn_lang.specs.Grammar as grammar;
 ghost use Rattle.txn_lang.specs.Grammar.{line_in, text_in};
 ghost use Rattle.txn_lang.specs.Building.{IsBlock, AreFrames, ReadsLine, ReadsText, Refuses, context_of};
 
-use crate::blocks::Builder;
-use crate::fault::{LineFault, ScriptFault};
-use crate::tokens::unblanked;
+use crate::fault::ScriptFault;
+use crate::standing::Builder;
 use fp_model::Defs;
 use std::alloc::Global;
+use txn_tokens::{LineFault, unblanked};
 
 // A line without the byte 13 at its end.
 fn without_return(line: &[u8]) -> &[u8]

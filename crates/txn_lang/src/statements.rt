@@ -18,21 +18,19 @@ ghost use Rattle.std.specs.Prelude.{◌≡◌, codes};
 ghost use Rattle.std.specs.List.{before_first};
 ghost use Rattle.fp_model.specs.declared.scripts.Statement.{roll-Statement};
 ghost use Rattle.fp_model.specs.declared.scripts.Statement.TheOpen as statement;
-ghost use Rattle.txn_lang.specs.Readings.{Gives, ended};
-ghost use Rattle.txn_lang.specs.Parts.{entry_of};
-ghost use Rattle.txn_lang.specs.Lookups.{HaveByteNumbers};
+ghost use Rattle.txn_tokens.specs.Readings.{Gives, ended};
+ghost use Rattle.txn_tokens.specs.Parts.{entry_of};
+ghost use Rattle.txn_tokens.specs.Lookups.{HaveByteNumbers};
 ghost use Rattle.txn_lang.specs.Statements as statements;
 
-use crate::fault::LineFault;
 use crate::line::{Keyword, Line};
-use crate::lookups::{db_of, get_ssas, isrt_fields, isrt_ssas};
-use crate::parts::{
-    comparison_at, count_at, fields_in, fsas_in, is_word, key_at, operand_at, operands_in,
-    operation_at, ssas_in, variable_at, word_at,
-};
-use crate::token::Token;
 use fp_model::{Defs, Get, Name, Operand, Operation, Statement};
 use std::alloc::Global;
+use txn_tokens::{
+    LineFault, Token, comparison_at, count_at, db_of, fields_in, fsas_in, get_ssas, is_word,
+    isrt_fields, isrt_ssas, key_at, operand_at, operands_in, operation_at, ssas_in, variable_at,
+    word_at,
+};
 
 // How often a loop runs at most, and the greatest code of ROLB.
 const MOST_TIMES: u16 = 10_000;

@@ -2,7 +2,7 @@ use Rattle.std.proofs.Common.{rules, tests, arith, ◌∙◌, sym, length}
 use Rattle.std.specs.Prelude.{nat_le}
 use Rattle.std.proofs.lemmas.Iterator.{YieldsList-from_slice}
 use Rattle.std.proofs.lemmas.Iterator.Search.{all_from_yields_List}
-use Rattle.txn_lang.proofs.LookupLemmas.{tested_fit}
+use Rattle.txn_tokens.proofs.LookupLemmas.{tested_fit}
 use Rattle.fp_vectors.proofs.scripts.fits.Goals as goal
 
 pub returns : goal.returns

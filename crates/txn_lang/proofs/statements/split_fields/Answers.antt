@@ -4,7 +4,7 @@ use Rattle.std.proofs.lemmas.Iterator.{YieldsList-from_slice}
 use Rattle.std.proofs.lemmas.Iterator.Search.{position_from_yields_List}
 use Rattle.std.proofs.lemmas.Grind.{common_steps}
 use Rattle.txn_lang.specs.Statements.{begins_fields}
-use Rattle.txn_lang.proofs.Runs.{place_is, whole_is, behind_take, drop_past}
+use Rattle.txn_tokens.proofs.Runs.{place_is, whole_is, behind_take, drop_past}
 use Rattle.txn_lang.proofs.statements.split_fields.Goals as goal
 
 pub returns-in-Some-clause-before : goal.returns-in-Some-clause-before

@@ -1,0 +1,4 @@
+pub mod Readings
+pub mod Tokens
+pub mod Parts
+pub mod Lookups
