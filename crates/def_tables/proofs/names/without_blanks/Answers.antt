@@ -15,10 +15,11 @@ loop-end-preserved c =
           ∙ c.loop-end.invariant.1,
     )
 
-pub returns-clause-exact : goal.returns-clause-exact
-returns-clause-exact c =
+pub returns : goal.returns
+returns c =
     let t = c.args.text.now in
     let n = c.loop-end.end in
+    let exact : take n t ≡ trimmed t =
     elim c.loop-end-test.branch [
       | then-loop-end-test+else-text-end-eq32 w ↦
           take-last t n (omega arith) (omega arith)
@@ -29,3 +30,5 @@ returns-clause-exact c =
           (let none : n ≡ 0 = omega arith in subst (λ (m : ℕ). take m t ≡ trimmed (take m t)) (sym none) refl) ∙
           c.loop-end.invariant.1
     ]
+    in
+    record { exact = exact }
