@@ -1,9 +1,9 @@
 -- Elements that are read one after another, each beside those before it.
 use Rattle.std.proofs.Common.{◌≡◌, suc, List, [], ◌∷◌, ◌++◌, length, Result, Ok, refl, sym, ap, subst, ◌∙◌, append_assoc}
 use Rattle.std.specs.List.{AllByRecursion}
-use Rattle.fp_defs.specs.Readings.{in_turn}
-use Rattle.fp_defs.specs.declared.fault.DefsFault.{DefsFault}
-use Rattle.fp_defs.proofs.Steps.{ok_step}
+use Rattle.def_tables.specs.Readings.{in_turn}
+use Rattle.def_tables.specs.declared.fault.DefsFault.{DefsFault}
+use Rattle.def_tables.proofs.Steps.{ok_step}
 
 -- each stands in a relation to those before it
 abbrev pub Beside : {A : Type 0} → (List A → A → Type 0) → List A → List A → Type 0

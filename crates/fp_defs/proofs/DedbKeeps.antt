@@ -13,23 +13,23 @@ use Rattle.fp_model.specs.Texts.{same_text}
 use Rattle.fp_model.specs.Names.{IsName}
 use Rattle.fp_model.specs.State.{anchor_count}
 use Rattle.fp_model.specs.WellFormed.{AreDistinct, IsSegDef, has_sequential, AllWithinLevels, IsAreaDef, IsDedbDef}
-use Rattle.fp_defs.specs.Readings.{or_fault, in_turn}
-use Rattle.fp_defs.specs.Values.{as_tables}
-use Rattle.fp_defs.specs.Keys.{occurs, only, needed, new_name, within, exit_at, not_empty, tables_at}
+use Rattle.def_tables.specs.Readings.{or_fault, in_turn}
+use Rattle.def_tables.specs.Values.{as_tables}
+use Rattle.def_tables.specs.Keys.{occurs, only, needed, new_name, within, exit_at, not_empty, tables_at}
 use Rattle.fp_defs.specs.Msdbs.{msdb_names}
 use Rattle.fp_defs.specs.Segments.{segment_names, segment_of, all_fit}
 use Rattle.fp_defs.specs.Areas.{area_names, area_of}
 use Rattle.fp_defs.specs.Dedbs.{dedb_names, areas_named, is_interval_size, size_in, interval_size_at, depth_from, intervals_of, ended, dedb_behind, dedb_of}
-use Rattle.fp_defs.specs.declared.fault.DefsFault.{DefsFault}
-use Rattle.fp_defs.specs.declared.fault.DefsFault.TheVariants.{BadField, OutOfLimit}
-use Rattle.fp_defs.specs.declared.keys.Form.TheVariants.{Dedb}
+use Rattle.def_tables.specs.declared.fault.DefsFault.{DefsFault}
+use Rattle.def_tables.specs.declared.fault.DefsFault.TheVariants.{BadField, OutOfLimit}
+use Rattle.def_tables.specs.declared.keys.Form.TheVariants.{Dedb}
 use Rattle.fp_defs.proofs.Beside.{Beside, IsRead, read_in_turn, beside_map, beside_each}
 use Rattle.fp_defs.proofs.Distinct.{no_texts, distinct_beside}
 use Rattle.fp_defs.proofs.DedbLemmas.{map_twice, AreaKeeps, area_keeps, SegmentKeeps, segment_keeps}
-use Rattle.fp_defs.proofs.KeyLemmas.{within-ok}
+use Rattle.def_tables.proofs.KeyLemmas.{within-ok}
 use Rattle.fp_defs.proofs.MsdbLemmas.{new_name-is}
 use Rattle.fp_defs.proofs.SegmentLemmas.{have_places, each_fits}
-use Rattle.fp_defs.proofs.Steps.{ok_step}
+use Rattle.def_tables.proofs.Steps.{ok_step}
 
 -- ---- types together
 

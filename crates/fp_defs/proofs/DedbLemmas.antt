@@ -11,21 +11,21 @@ use Rattle.fp_model.specs.declared.definitions.AreaDef.{AreaDef}
 use Rattle.fp_model.specs.Texts.{same_text}
 use Rattle.fp_model.specs.Names.{IsName}
 use Rattle.fp_model.specs.WellFormed.{Between, BeginsWithKey, IsTypeName, IsSegDef, has_sequential, HasCapacity, IsAreaDef}
-use Rattle.fp_defs.specs.Readings.{or_fault}
-use Rattle.fp_defs.specs.Values.{as_name}
-use Rattle.fp_defs.specs.Keys.{occurs, only, needed, name_at, once, new_name, within, number_at, number_within, number_or, flag_at}
+use Rattle.def_tables.specs.Readings.{or_fault}
+use Rattle.def_tables.specs.Values.{as_name}
+use Rattle.def_tables.specs.Keys.{occurs, only, needed, name_at, once, new_name, within, number_at, number_within, number_or, flag_at}
 use Rattle.fp_defs.specs.Segments.{segment_names, not_KEY, segment_name, no_limit, says_sequential, place_of, parent_in, parent_at, at_its_place, sequential_at, segment_of}
 use Rattle.fp_defs.specs.Areas.{area_names, capacity_in, capacity_at, area_of}
-use Rattle.fp_defs.specs.declared.fault.DefsFault.{DefsFault}
-use Rattle.fp_defs.specs.declared.fault.DefsFault.TheVariants.{BadField}
-use Rattle.fp_defs.specs.declared.keys.Form.TheVariants.{Area}
+use Rattle.def_tables.specs.declared.fault.DefsFault.{DefsFault}
+use Rattle.def_tables.specs.declared.fault.DefsFault.TheVariants.{BadField}
+use Rattle.def_tables.specs.declared.keys.Form.TheVariants.{Area}
 use Rattle.fp_defs.proofs.Beside.{IsRead}
 use Rattle.fp_defs.proofs.Distinct.{once-new}
-use Rattle.fp_defs.proofs.KeyLemmas.{within-any}
+use Rattle.def_tables.proofs.KeyLemmas.{within-any}
 use Rattle.fp_defs.proofs.LayoutLemmas.{layout_keeps, name_at-is}
 use Rattle.fp_defs.proofs.MsdbLemmas.{new_name-is}
 use Rattle.fp_defs.proofs.SegmentLemmas.{segment_read, found_below}
-use Rattle.fp_defs.proofs.Steps.{ok_step, ok_same, some_from_ok}
+use Rattle.def_tables.proofs.Steps.{ok_step, ok_same, some_from_ok}
 
 -- two maps, one behind the other
 pub map_twice : {A B D : Type 0} (f : A → B) (g : B → D) (xs : List A) → map g (map f xs) ≡ map (λ x. g (f x)) xs

@@ -8,9 +8,9 @@ use Rattle.std.proofs.lemmas.List.{map-append}
 use Rattle.std.proofs.lemmas.Map.Keys.{IsDistinct-push}
 use Rattle.fp_model.specs.Texts.{same_text, trimmed}
 use Rattle.fp_model.specs.declared.name.Name.{Name}
-use Rattle.fp_defs.specs.Keys.{occurs, repeated, once, all_once}
-use Rattle.fp_defs.specs.declared.fault.DefsFault.{DefsFault}
-use Rattle.fp_defs.specs.declared.fault.DefsFault.TheVariants.{Twice}
+use Rattle.def_tables.specs.Keys.{occurs, repeated, once, all_once}
+use Rattle.def_tables.specs.declared.fault.DefsFault.{DefsFault}
+use Rattle.def_tables.specs.declared.fault.DefsFault.TheVariants.{Twice}
 use Rattle.fp_defs.proofs.Beside.{Beside}
 
 pub nothing_more : {A : Type 0} (xs : List A) → xs ++ [] ≡ xs

@@ -11,18 +11,18 @@ use Rattle.fp_model.specs.declared.definitions.FieldKind.TheVariants.{C, X, H, F
 use Rattle.fp_model.specs.Texts.{same_text, padded}
 use Rattle.fp_model.specs.Names.{is_name, name_in, IsName}
 use Rattle.fp_model.specs.WellFormed.{StandFrom, IsFieldName, IsLayout, BeginsWithKey}
-use Rattle.fp_defs.specs.Readings.{or_fault}
-use Rattle.fp_defs.specs.Values.{each, as_name, is_reserved, as_field_name, as_kind, as_length, triple_in, as_triple, as_triples}
-use Rattle.fp_defs.specs.Keys.{needed, name_at, within, all_once}
-use Rattle.fp_defs.specs.Fields.{begins_with_key, keyed, is_characters, laid_out, total, fields_at}
-use Rattle.fp_defs.specs.declared.fault.DefsFault.TheVariants.{BadField}
-use Rattle.fp_defs.specs.declared.fields.Triple.{Triple}
-use Rattle.fp_defs.specs.declared.fields.Layout.{Layout}
+use Rattle.def_tables.specs.Readings.{or_fault}
+use Rattle.def_tables.specs.Values.{each, as_name, is_reserved, as_field_name, as_kind, as_length, triple_in, as_triple, as_triples}
+use Rattle.def_tables.specs.Keys.{needed, name_at, within, all_once}
+use Rattle.def_tables.specs.Fields.{begins_with_key, keyed, is_characters, laid_out, total, fields_at}
+use Rattle.def_tables.specs.declared.fault.DefsFault.TheVariants.{BadField}
+use Rattle.def_tables.specs.declared.fields.Triple.{Triple}
+use Rattle.def_tables.specs.declared.fields.Layout.{Layout}
 use Rattle.fp_defs.proofs.Distinct.{all_once-distinct}
-use Rattle.fp_defs.proofs.FieldLemmas.{Fits, triples-fit}
-use Rattle.fp_defs.proofs.KeyLemmas.{within-ok}
-use Rattle.fp_defs.proofs.Steps.{ok_step, some_from_ok}
-use Rattle.fp_defs.proofs.ValueSteps.{some_step, each_has}
+use Rattle.def_tables.proofs.FieldLemmas.{Fits, triples-fit}
+use Rattle.def_tables.proofs.KeyLemmas.{within-ok}
+use Rattle.def_tables.proofs.Steps.{ok_step, some_from_ok}
+use Rattle.def_tables.proofs.ValueSteps.{some_step, each_has}
 
 -- ---- names
 

@@ -1,10 +1,5 @@
 pub mod OnLiterals
-pub mod KeyLemmas
 pub mod Loops
-pub mod TrimLemmas
-pub mod Steps
-pub mod ValueSteps
-pub mod FieldLemmas
 pub mod WholeLemmas
 pub mod SegmentLemmas
 pub mod Beside
@@ -15,8 +10,5 @@ pub mod DedbLemmas
 pub mod DedbKeeps
 pub mod WholeKeeps
 pub mod PlaceLemmas
-pub mod RowLemmas
-pub mod NumberLemmas
-pub mod TextLemmas
 pub mod ExitLemmas
 pub mod ReadLemmas

@@ -16,17 +16,18 @@ use Rattle.fp_model.specs.Numbers.{bytes_of}
 use Rattle.fp_model.specs.State.{key_of}
 use Rattle.fp_model.specs.WellFormed.{StandFrom, IsLoadedField, AreLoadedFields, IsLoaded, IsMsdbDef}
 use Rattle.packed_dec.proofs.ReadsBack.{reads_back}
-use Rattle.fp_defs.specs.Readings.{or_fault}
-use Rattle.fp_defs.specs.Values.{each, number_of_text, bytes_if, number_loaded, text_loaded, loaded_as, field_in, segment_in, as_segment, as_segments}
-use Rattle.fp_defs.specs.Keys.{occurs, only, new_name, flag_at, name_at, once, all_once}
-use Rattle.fp_defs.specs.Fields.{fields_at}
-use Rattle.fp_defs.specs.Msdbs.{load_in, load_at, msdb_names, msdb_of}
-use Rattle.fp_defs.specs.declared.fault.DefsFault.TheVariants.{BadField}
-use Rattle.fp_defs.specs.declared.keys.Form.TheVariants.{Msdb}
+use Rattle.def_tables.specs.Readings.{or_fault}
+use Rattle.def_tables.specs.Values.{each, number_of_text, bytes_if, number_loaded, text_loaded, loaded_as, field_in, segment_in, as_segment, as_segments}
+use Rattle.def_tables.specs.Keys.{occurs, only, new_name, flag_at, name_at, once, all_once}
+use Rattle.def_tables.specs.Fields.{fields_at}
+use Rattle.def_tables.specs.Loads.{load_in, load_at}
+use Rattle.fp_defs.specs.Msdbs.{msdb_names, msdb_of}
+use Rattle.def_tables.specs.declared.fault.DefsFault.TheVariants.{BadField}
+use Rattle.def_tables.specs.declared.keys.Form.TheVariants.{Msdb}
 use Rattle.fp_defs.proofs.Distinct.{no_texts, all_once-distinct, once-new}
 use Rattle.fp_defs.proofs.LayoutLemmas.{layout_keeps, name_at-is}
-use Rattle.fp_defs.proofs.Steps.{ok_step, some_from_ok}
-use Rattle.fp_defs.proofs.ValueSteps.{some_step, each_has}
+use Rattle.def_tables.proofs.Steps.{ok_step, some_from_ok}
+use Rattle.def_tables.proofs.ValueSteps.{some_step, each_has}
 
 -- ---- fields that are loaded
 

@@ -8,11 +8,11 @@ use Rattle.fp_model.specs.declared.definitions.SegDef.{SegDef}
 use Rattle.fp_model.specs.State.{numbers_up}
 use Rattle.fp_model.specs.Order.{parent_of, line_within, line_to}
 use Rattle.fp_model.specs.WellFormed.{stored_length}
-use Rattle.fp_defs.specs.Readings.{◌>>=◌}
-use Rattle.fp_defs.specs.Keys.{within}
+use Rattle.def_tables.specs.Readings.{◌>>=◌}
+use Rattle.def_tables.specs.Keys.{within}
 use Rattle.fp_defs.specs.Segments.{all_fit}
 use Rattle.fp_defs.specs.Dedbs.{depth_from}
-use Rattle.fp_defs.specs.declared.fault.DefsFault.{DefsFault}
+use Rattle.def_tables.specs.declared.fault.DefsFault.{DefsFault}
 
 -- what stands at a place, with what is behind it
 pub at_place : {X : Type 0} (xs : List X) (i : ℕ) → i < length xs → (x : X) × (slice_get xs i ≡ Some x)

@@ -7,12 +7,12 @@ use Rattle.fp_model.specs.declared.definitions.DedbDef.{DedbDef}
 use Rattle.fp_model.specs.declared.definitions.Kind.{Kind}
 use Rattle.fp_model.specs.declared.definitions.Defs.{Defs}
 use Rattle.fp_exits.specs.Kinds.{Kinds, has_kind}
-use Rattle.fp_defs.specs.Readings.{◌>>=◌}
+use Rattle.def_tables.specs.Readings.{◌>>=◌}
 use Rattle.fp_defs.specs.Whole.{defs_of}
 use Rattle.fp_defs.specs.Exits.{first_lacking, lacking, with_exits, defs_for}
-use Rattle.fp_defs.specs.declared.fault.DefsFault.{DefsFault}
-use Rattle.fp_defs.specs.declared.fault.DefsFault.TheVariants.{NoExit}
-use Rattle.fp_defs.proofs.Steps.{ok_step}
+use Rattle.def_tables.specs.declared.fault.DefsFault.{DefsFault}
+use Rattle.def_tables.specs.declared.fault.DefsFault.TheVariants.{NoExit}
+use Rattle.def_tables.proofs.Steps.{ok_step}
 
 some_not_none : {X : Type 0} (x : X) → Some x ≡ None → ⊥
 some_not_none x e = cc

@@ -10,16 +10,16 @@ use Rattle.fp_model.specs.declared.name.Name.{Name}
 use Rattle.fp_model.specs.declared.definitions.SegDef.{SegDef}
 use Rattle.fp_model.specs.Order.{child_types}
 use Rattle.fp_model.specs.WellFormed.{HasPlace, HavePlaces, EachFits, has_sequential, in_fours, stored_length}
-use Rattle.fp_defs.specs.Readings.{or_fault}
-use Rattle.fp_defs.specs.Values.{as_name}
-use Rattle.fp_defs.specs.Keys.{only, needed, flag_at, within}
-use Rattle.fp_defs.specs.Fields.{fields_at}
+use Rattle.def_tables.specs.Readings.{or_fault}
+use Rattle.def_tables.specs.Values.{as_name}
+use Rattle.def_tables.specs.Keys.{only, needed, flag_at, within}
+use Rattle.def_tables.specs.Fields.{fields_at}
 use Rattle.fp_defs.specs.Segments.{IsNarrow, segment_name, no_limit, says_sequential, place_of, parent_in, parent_at, at_its_place, sequential_at, segment_of, all_fit}
-use Rattle.fp_defs.specs.declared.fault.DefsFault.TheVariants.{BadField}
-use Rattle.fp_defs.specs.declared.keys.Form.TheVariants.{Segment}
+use Rattle.def_tables.specs.declared.fault.DefsFault.TheVariants.{BadField}
+use Rattle.def_tables.specs.declared.keys.Form.TheVariants.{Segment}
 use Rattle.fp_defs.proofs.Beside.{Beside, IsRead}
-use Rattle.fp_defs.proofs.KeyLemmas.{within-ok}
-use Rattle.fp_defs.proofs.Steps.{ok_step, some_from_ok}
+use Rattle.def_tables.proofs.KeyLemmas.{within-ok}
+use Rattle.def_tables.proofs.Steps.{ok_step, some_from_ok}
 
 -- ---- what a table of a segment gave
 

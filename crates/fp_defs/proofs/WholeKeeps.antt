@@ -16,22 +16,22 @@ use Rattle.fp_model.specs.declared.definitions.Defs.{Defs}
 use Rattle.fp_model.specs.Texts.{same_text}
 use Rattle.fp_model.specs.State.{numbers_up}
 use Rattle.fp_model.specs.WellFormed.{Between, AreDistinct, IsMsdbDef, IsDedbDef, AreGroups, AreDefs}
-use Rattle.fp_defs.specs.Readings.{or_fault, in_turn, Gives}
-use Rattle.fp_defs.specs.Keys.{occurs, only, needed, within, number_within, number_or, exit_at, tables_or_none}
+use Rattle.def_tables.specs.Readings.{or_fault, in_turn, Gives}
+use Rattle.def_tables.specs.Keys.{occurs, only, needed, within, number_within, number_or, exit_at, tables_or_none}
 use Rattle.fp_defs.specs.Msdbs.{msdb_names, msdb_of}
 use Rattle.fp_defs.specs.Areas.{area_names}
 use Rattle.fp_defs.specs.Dedbs.{dedb_names, areas_named, intervals_of, dedb_of}
 use Rattle.fp_defs.specs.Whole.{items_in, group_of, greatest, missing_group, no_gap, groups_in, regions_at, databases_of, defs_in, document_of, defs_of}
-use Rattle.fp_defs.specs.declared.fault.DefsFault.{DefsFault}
-use Rattle.fp_defs.specs.declared.fault.DefsFault.TheVariants.{NotToml, OutOfLimit, BadField, TooLong}
-use Rattle.fp_defs.specs.declared.keys.Form.TheVariants.{Top}
+use Rattle.def_tables.specs.declared.fault.DefsFault.{DefsFault}
+use Rattle.def_tables.specs.declared.fault.DefsFault.TheVariants.{NotToml, OutOfLimit, BadField, TooLong}
+use Rattle.def_tables.specs.declared.keys.Form.TheVariants.{Top}
 use Rattle.fp_defs.proofs.Beside.{Beside, IsRead, read_in_turn, beside_map, beside_each}
 use Rattle.fp_defs.proofs.Distinct.{no_texts, nothing_more, distinct_beside}
 use Rattle.fp_defs.proofs.DedbLemmas.{map_twice, number_or-within, number_within-within}
 use Rattle.fp_defs.proofs.DedbKeeps.{DedbKeeps, dedb_keeps}
-use Rattle.fp_defs.proofs.KeyLemmas.{within-ok, within-any}
+use Rattle.def_tables.proofs.KeyLemmas.{within-ok, within-any}
 use Rattle.fp_defs.proofs.MsdbLemmas.{MsdbKeeps, msdb_keeps}
-use Rattle.fp_defs.proofs.Steps.{ok_step, ok_same}
+use Rattle.def_tables.proofs.Steps.{ok_step, ok_same}
 
 -- ---- groups
 

@@ -5,9 +5,9 @@ use Rattle.std.proofs.lemmas.Str.{IsUtf8-from_is_utf8, is_utf8-from_IsUtf8}
 use Rattle.std.proofs.lemmas.Bool.Decides.{nat_tests}
 use Rattle.toml.specs.Data.{Members}
 use Rattle.toml.specs.Parse.{parse_document}
-use Rattle.fp_defs.specs.Readings.{◌>>=◌, or_fault}
+use Rattle.def_tables.specs.Readings.{◌>>=◌, or_fault}
 use Rattle.fp_defs.specs.Whole.{document_of, defs_in, defs_of}
-use Rattle.fp_defs.specs.declared.fault.DefsFault.TheVariants.{NotToml}
+use Rattle.def_tables.specs.declared.fault.DefsFault.TheVariants.{NotToml}
 
 not_long : (text : List ℕ) → length text ≤ 1000000 → nat_lt 1000000 (length text) ≡ false
 not_long text short = grind (arith, nat_tests)

@@ -3,11 +3,11 @@ use Rattle.std.specs.Prelude.{ℕ, ℤ, pos, negsuc, zero, suc, List, map, ◌++
 use Rattle.std.specs.Option.{option_map_or}
 use Rattle.toml.specs.Data.{Members, get_member, as_integer}
 use Rattle.fp_model.specs.declared.definitions.AreaDef.{AreaDef}
-use Rattle.fp_defs.specs.Readings.{◌>>=◌, or_fault}
-use Rattle.fp_defs.specs.Keys.{only, new_name, number_at, within, number_or}
-use Rattle.fp_defs.specs.declared.fault.DefsFault.{DefsFault}
-use Rattle.fp_defs.specs.declared.fault.DefsFault.TheVariants.{BadField}
-use Rattle.fp_defs.specs.declared.keys.Form.TheVariants.{Area}
+use Rattle.def_tables.specs.Readings.{◌>>=◌, or_fault}
+use Rattle.def_tables.specs.Keys.{only, new_name, number_at, within, number_or}
+use Rattle.def_tables.specs.declared.fault.DefsFault.{DefsFault}
+use Rattle.def_tables.specs.declared.fault.DefsFault.TheVariants.{BadField}
+use Rattle.def_tables.specs.declared.keys.Form.TheVariants.{Area}
 
 abbrev pub area_names : List AreaDef → List (List ℕ)
 area_names defs = map (λ def. def.name.0) defs

@@ -9,14 +9,14 @@ use Rattle.fp_model.specs.declared.definitions.DedbDef.{DedbDef}
 use Rattle.fp_model.specs.State.{anchor_count}
 use Rattle.fp_model.specs.Order.{line_to}
 use Rattle.fp_model.specs.WellFormed.{has_sequential, formatted_intervals}
-use Rattle.fp_defs.specs.Readings.{◌>>=◌, or_fault, in_turn}
-use Rattle.fp_defs.specs.Keys.{only, needed, new_name, exit_at, tables_at, within}
+use Rattle.def_tables.specs.Readings.{◌>>=◌, or_fault, in_turn}
+use Rattle.def_tables.specs.Keys.{only, needed, new_name, exit_at, tables_at, within}
 use Rattle.fp_defs.specs.Msdbs.{msdb_names}
 use Rattle.fp_defs.specs.Segments.{segment_of, all_fit}
 use Rattle.fp_defs.specs.Areas.{area_of, area_names}
-use Rattle.fp_defs.specs.declared.fault.DefsFault.{DefsFault}
-use Rattle.fp_defs.specs.declared.fault.DefsFault.TheVariants.{BadField, OutOfLimit}
-use Rattle.fp_defs.specs.declared.keys.Form.TheVariants.{Dedb}
+use Rattle.def_tables.specs.declared.fault.DefsFault.{DefsFault}
+use Rattle.def_tables.specs.declared.fault.DefsFault.TheVariants.{BadField, OutOfLimit}
+use Rattle.def_tables.specs.declared.keys.Form.TheVariants.{Dedb}
 
 abbrev pub dedb_names : List DedbDef → List (List ℕ)
 dedb_names defs = map (λ def. def.name.0) defs

@@ -4,10 +4,10 @@ use Rattle.std.specs.Option.{option_map_or}
 use Rattle.fp_model.specs.declared.definitions.Kind.{Kind}
 use Rattle.fp_model.specs.declared.definitions.Defs.{Defs}
 use Rattle.fp_exits.specs.Kinds.{Kinds, has_kind}
-use Rattle.fp_defs.specs.Readings.{◌>>=◌}
+use Rattle.def_tables.specs.Readings.{◌>>=◌}
 use Rattle.fp_defs.specs.Whole.{defs_of}
-use Rattle.fp_defs.specs.declared.fault.DefsFault.{DefsFault}
-use Rattle.fp_defs.specs.declared.fault.DefsFault.TheVariants.{NoExit}
+use Rattle.def_tables.specs.declared.fault.DefsFault.{DefsFault}
+use Rattle.def_tables.specs.declared.fault.DefsFault.TheVariants.{NoExit}
 
 -- of the kinds that are needed, the first that isn't there
 abbrev pub first_lacking : List Kind → List Kind → Option Kind

@@ -1,7 +1,3 @@
-pub mod Readings
-pub mod Values
-pub mod Keys
-pub mod Fields
 pub mod Msdbs
 pub mod Segments
 pub mod Areas

@@ -1,27 +1,13 @@
 -- The table of a main storage database.
-use Rattle.std.specs.Prelude.{ℕ, List, [], map, true, Result, Ok, codes}
-use Rattle.std.specs.Option.{option_map_or}
-use Rattle.toml.specs.Data.{Data, Members, get_member}
-use Rattle.fp_model.specs.declared.definitions.FieldDef.{FieldDef}
+use Rattle.std.specs.Prelude.{ℕ, List, map, true, Result, Ok, codes}
+use Rattle.toml.specs.Data.{Members}
 use Rattle.fp_model.specs.declared.definitions.MsdbDef.{MsdbDef}
-use Rattle.fp_model.specs.State.{key_of}
-use Rattle.fp_defs.specs.Readings.{◌>>=◌, or_fault}
-use Rattle.fp_defs.specs.Values.{as_segments}
-use Rattle.fp_defs.specs.Keys.{only, new_name, flag_at, all_once}
-use Rattle.fp_defs.specs.Fields.{fields_at}
-use Rattle.fp_defs.specs.declared.fault.DefsFault.{DefsFault}
-use Rattle.fp_defs.specs.declared.fault.DefsFault.TheVariants.{BadField}
-use Rattle.fp_defs.specs.declared.keys.Form.TheVariants.{Msdb}
-
--- rows of one text for each field, with keys that differ
-unfoldable pub load_in : List FieldDef → Data → Result (List (List ℕ)) DefsFault
-load_in fields value = do
-  segments ← or_fault (BadField (codes "load")) (as_segments fields value)
-  _ ← all_once (map (key_of fields) segments)
-  Ok segments
-
-unfoldable pub load_at : List FieldDef → Members → Result (List (List ℕ)) DefsFault
-load_at fields members = option_map_or (load_in fields) (get_member (codes "load") members) (Ok [])
+use Rattle.def_tables.specs.Readings.{◌>>=◌}
+use Rattle.def_tables.specs.Keys.{only, new_name, flag_at}
+use Rattle.def_tables.specs.Fields.{fields_at}
+use Rattle.def_tables.specs.Loads.{load_at}
+use Rattle.def_tables.specs.declared.fault.DefsFault.{DefsFault}
+use Rattle.def_tables.specs.declared.keys.Form.TheVariants.{Msdb}
 
 abbrev pub msdb_names : List MsdbDef → List (List ℕ)
 msdb_names defs = map (λ def. def.name.0) defs

@@ -7,13 +7,13 @@ use Rattle.fp_model.specs.declared.name.Name.{Name}
 use Rattle.fp_model.specs.declared.definitions.SegDef.{SegDef}
 use Rattle.fp_model.specs.Texts.{same_text}
 use Rattle.fp_model.specs.WellFormed.{stored_length}
-use Rattle.fp_defs.specs.Readings.{◌>>=◌, or_fault}
-use Rattle.fp_defs.specs.Values.{as_name}
-use Rattle.fp_defs.specs.Keys.{only, needed, name_at, once, flag_at, within}
-use Rattle.fp_defs.specs.Fields.{fields_at}
-use Rattle.fp_defs.specs.declared.fault.DefsFault.{DefsFault}
-use Rattle.fp_defs.specs.declared.fault.DefsFault.TheVariants.{BadField}
-use Rattle.fp_defs.specs.declared.keys.Form.TheVariants.{Segment}
+use Rattle.def_tables.specs.Readings.{◌>>=◌, or_fault}
+use Rattle.def_tables.specs.Values.{as_name}
+use Rattle.def_tables.specs.Keys.{only, needed, name_at, once, flag_at, within}
+use Rattle.def_tables.specs.Fields.{fields_at}
+use Rattle.def_tables.specs.declared.fault.DefsFault.{DefsFault}
+use Rattle.def_tables.specs.declared.fault.DefsFault.TheVariants.{BadField}
+use Rattle.def_tables.specs.declared.keys.Form.TheVariants.{Segment}
 
 abbrev pub segment_names : List SegDef → List (List ℕ)
 segment_names defs = map (λ def. def.name.0) defs

@@ -9,13 +9,13 @@ use Rattle.fp_model.specs.declared.definitions.MsdbDef.{MsdbDef}
 use Rattle.fp_model.specs.declared.definitions.DedbDef.{DedbDef}
 use Rattle.fp_model.specs.declared.definitions.Defs.{Defs}
 use Rattle.fp_model.specs.State.{numbers_up}
-use Rattle.fp_defs.specs.Readings.{◌>>=◌, or_fault, in_turn}
-use Rattle.fp_defs.specs.Keys.{only, needed, within, number_within, number_or, exit_at, tables_or_none}
+use Rattle.def_tables.specs.Readings.{◌>>=◌, or_fault, in_turn}
+use Rattle.def_tables.specs.Keys.{only, needed, within, number_within, number_or, exit_at, tables_or_none}
 use Rattle.fp_defs.specs.Msdbs.{msdb_of}
 use Rattle.fp_defs.specs.Dedbs.{dedb_of}
-use Rattle.fp_defs.specs.declared.fault.DefsFault.{DefsFault}
-use Rattle.fp_defs.specs.declared.fault.DefsFault.TheVariants.{NotToml, OutOfLimit, BadField, TooLong}
-use Rattle.fp_defs.specs.declared.keys.Form.TheVariants.{Top}
+use Rattle.def_tables.specs.declared.fault.DefsFault.{DefsFault}
+use Rattle.def_tables.specs.declared.fault.DefsFault.TheVariants.{NotToml, OutOfLimit, BadField, TooLong}
+use Rattle.def_tables.specs.declared.keys.Form.TheVariants.{Top}
 
 -- ---- regions
 

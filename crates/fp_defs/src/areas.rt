@@ -1,14 +1,15 @@
 //! The tables of the areas of a data entry database.
 ghost use Rattle.std.specs.Prelude.{◌≡◌, ◌++◌, [], map};
 ghost use Rattle.toml.specs.View.{table_view};
-ghost use Rattle.fp_defs.specs.Readings.{Gives, in_turn};
-ghost use Rattle.fp_defs.specs.Keys.{occurs, once, new_name};
+ghost use Rattle.def_tables.specs.Readings.{Gives, in_turn};
+ghost use Rattle.def_tables.specs.Keys.{occurs, once, new_name};
 ghost use Rattle.fp_defs.specs.Areas.{area_names, capacity_in, capacity_at, area_of};
 ghost use Rattle.fp_defs.specs.Dedbs.{areas_named};
 
-use crate::fault::{DefsFault, bad_field, twice};
-use crate::keys::{Form, member, name_at, number_at, number_or, only, within};
-use crate::names::without_blanks;
+use def_tables::{
+    DefsFault, Form, bad_field, member, name_at, number_at, number_or, only, twice, within,
+    without_blanks,
+};
 use fp_model::{AreaDef, DedbDef, List, Name};
 use std::alloc::Global;
 use toml::Table;
@@ -38,7 +39,7 @@ fn is_area_of_any(dedbs: &[DedbDef], name: &Name) -> bool
 }
 
 /// The name of an area that none of these databases and none before it has.
-#[tactic(auto, unfolding(crate::specs::Keys::new_name, crate::specs::Keys::once))]
+#[tactic(auto, unfolding(def_tables::specs::Keys::new_name, def_tables::specs::Keys::once))]
 fn new_area_name(
     alloc: Global,
     dedbs: &[DedbDef],

@@ -4,17 +4,18 @@ ghost use Rattle.toml.specs.View.{table_view};
 ghost use Rattle.fp_model.specs.State.{anchors_in, anchor_count};
 ghost use Rattle.fp_model.specs.Order.{line_to, parent_of};
 ghost use Rattle.fp_model.specs.WellFormed.{sequential_intervals, formatted_intervals};
-ghost use Rattle.fp_defs.specs.Readings.{Gives, in_turn};
-ghost use Rattle.fp_defs.specs.Keys.{occurs, once, new_name};
+ghost use Rattle.def_tables.specs.Readings.{Gives, in_turn};
+ghost use Rattle.def_tables.specs.Keys.{occurs, once, new_name};
 ghost use Rattle.fp_defs.specs.Msdbs.{msdb_names};
 ghost use Rattle.fp_defs.specs.Dedbs.{dedb_names, size_in, interval_size_at, depth_from, intervals_of, ended, dedb_behind, dedb_of};
 
 use crate::areas::areas_of;
-use crate::fault::{DefsFault, bad_field, out_of_limit, twice};
-use crate::keys::{Form, count_within, exit_at, name_at, needed, only, tables_at};
 use crate::msdbs::is_msdb;
-use crate::names::without_blanks;
 use crate::segments::{all_fit, has_sequential, narrowed, segments_of};
+use def_tables::{
+    DefsFault, Form, bad_field, count_within, exit_at, name_at, needed, only, out_of_limit,
+    tables_at, twice, without_blanks,
+};
 use fp_model::{AreaDef, DedbDef, Kind, List, MsdbDef, Name, SegDef};
 use std::alloc::Global;
 use toml::Table;
@@ -40,7 +41,7 @@ fn is_dedb(defs: &[DedbDef], name: &Name) -> bool
 }
 
 /// The name of a database that none before it has.
-#[tactic(auto, unfolding(crate::specs::Keys::new_name, crate::specs::Keys::once))]
+#[tactic(auto, unfolding(def_tables::specs::Keys::new_name, def_tables::specs::Keys::once))]
 fn new_dedb_name(
     alloc: Global,
     msdbs: &[MsdbDef],

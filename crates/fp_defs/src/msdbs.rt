@@ -1,15 +1,13 @@
 //! The tables of main storage databases.
 ghost use Rattle.std.specs.Prelude.{◌≡◌, [], map};
 ghost use Rattle.toml.specs.View.{table_view};
-ghost use Rattle.fp_defs.specs.Readings.{Gives, in_turn};
-ghost use Rattle.fp_defs.specs.Keys.{occurs, once, new_name};
+ghost use Rattle.def_tables.specs.Readings.{Gives, in_turn};
+ghost use Rattle.def_tables.specs.Keys.{occurs, once, new_name};
 ghost use Rattle.fp_defs.specs.Msdbs.{msdb_names, msdb_of};
 
-use crate::fault::{DefsFault, twice};
-use crate::fields::fields_at;
-use crate::keys::{Form, flag_at, name_at, only};
-use crate::load::load_at;
-use crate::names::without_blanks;
+use def_tables::{
+    DefsFault, Form, fields_at, flag_at, load_at, name_at, only, twice, without_blanks,
+};
 use fp_model::{List, MsdbDef, Name};
 use std::alloc::Global;
 use toml::Table;
@@ -27,7 +25,7 @@ pub(crate) fn is_msdb(defs: &[MsdbDef], name: &Name) -> bool
 }
 
 /// The name of a database that none of these has.
-#[tactic(auto, unfolding(crate::specs::Keys::new_name, crate::specs::Keys::once))]
+#[tactic(auto, unfolding(def_tables::specs::Keys::new_name, def_tables::specs::Keys::once))]
 fn new_msdb_name(alloc: Global, before: &[MsdbDef], table: &Table) -> Result<Name, DefsFault>
     ensures { Gives (λ name. name) result (new_name (msdb_names before.now) (table_view table.now)) }
 {

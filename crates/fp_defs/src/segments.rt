@@ -8,14 +8,14 @@ ghost use Rattle.toml.specs.View.{view, table_view};
 ghost use Rattle.fp_model.specs.declared.definitions.SegDef.{SegDef};
 ghost use Rattle.fp_model.specs.Order.{is_child_of, numbers_from, child_types};
 ghost use Rattle.fp_model.specs.WellFormed.{has_sequential, in_fours, stored_length};
-ghost use Rattle.fp_defs.specs.Readings.{Gives, in_turn};
-ghost use Rattle.fp_defs.specs.Keys.{occurs, once};
+ghost use Rattle.def_tables.specs.Readings.{Gives, in_turn};
+ghost use Rattle.def_tables.specs.Keys.{occurs, once};
 ghost use Rattle.fp_defs.specs.Segments.{IsNarrow, segment_names, segment_name, says_sequential, place_of, parent_in, parent_at, at_its_place, sequential_at, segment_of, all_fit};
 
-use crate::fault::{DefsFault, bad_field, twice};
-use crate::fields::fields_at;
-use crate::keys::{Form, count_within, flag_at, member, name_at, needed, only};
-use crate::names::{as_name, without_blanks};
+use def_tables::{
+    DefsFault, Form, as_name, bad_field, count_within, fields_at, flag_at, member, name_at, needed,
+    only, twice, without_blanks,
+};
 use fp_model::{FieldDef, List, Name, SegDef};
 use std::alloc::{AllocError, Global};
 use std::marker::Model;
@@ -62,7 +62,7 @@ fn is_segment(drafts: &[Draft], name: &Name) -> bool
 }
 
 /// The name of a segment that none of these has.
-#[tactic(auto, unfolding(crate::specs::Segments::segment_name, crate::specs::Keys::once))]
+#[tactic(auto, unfolding(crate::specs::Segments::segment_name, def_tables::specs::Keys::once))]
 fn segment_name(alloc: Global, before: &[Draft], table: &Table) -> Result<Name, DefsFault>
     ensures { Gives (λ name. name) result (segment_name before.now (table_view table.now)) }
 {

@@ -5,17 +5,17 @@ ghost use Rattle.toml.specs.View.{array_view, table_view};
 ghost use Rattle.fp_model.specs.WellFormed.{AreDefs};
 ghost use Rattle.fp_exits.specs.Kinds.{has_kind, kinds_of};
 ghost use Rattle.fp_model.specs.Product.{groups_defined};
-ghost use Rattle.fp_defs.specs.Readings.{Gives, in_turn};
+ghost use Rattle.def_tables.specs.Readings.{Gives, in_turn};
 ghost use Rattle.fp_defs.specs.Whole.{items_in, group_of, greatest, missing_group, no_gap, groups_in, regions_at, databases_of, defs_in, document_of, defs_of};
 ghost use Rattle.fp_defs.specs.Exits.{defs_for};
 
 use crate::dedbs::dedbs_of;
 use crate::exits::lacking;
-use crate::fault::{DefsFault, bad_field, out_of_limit};
-use crate::keys::{
-    Form, count_within, exit_at, needed, number_or, number_within, only, tables_or_none,
-};
 use crate::msdbs::msdbs_of;
+use def_tables::{
+    DefsFault, Form, bad_field, count_within, exit_at, needed, number_or, number_within, only,
+    out_of_limit, tables_or_none,
+};
 use fp_exits::Exits;
 use fp_model::{Bytes, DedbDef, Defs, List, MsdbDef};
 use std::alloc::Global;

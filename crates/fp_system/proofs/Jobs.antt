@@ -3,7 +3,7 @@ use Rattle.std.proofs.Common.{◌≡◌, ⊎_elim, eqb-true, inl, inr, refl, sym
 use Rattle.std.specs.Prelude.{◌==◌, ◌≢◌, ◌⊎◌, filter_map, map, nat_lt, Result, Ok, Err}
 use Rattle.std.specs.Option.{option_map_or}
 use Rattle.fp_defs.specs.Exits.{first_lacking, lacking, with_exits}
-use Rattle.fp_defs.specs.Readings.{◌>>=◌}
+use Rattle.def_tables.specs.Readings.{◌>>=◌}
 use Rattle.fp_exits.specs.Kinds.{has_kind}
 use Rattle.fp_model.specs.declared.definitions.DedbDef.{DedbDef}
 use Rattle.fp_model.specs.declared.definitions.Kind.{Kind}
@@ -18,8 +18,8 @@ use Rattle.std.proofs.lemmas.Bool.Decides.{nat_tests}
 use Rattle.fp_defs.specs.Exits.{defs_for}
 use Rattle.fp_defs.specs.Whole.{defs_of}
 use Rattle.fp_exits.specs.Kinds.{Kinds}
-use Rattle.fp_defs.specs.declared.fault.DefsFault.{DefsFault}
-use Rattle.fp_defs.specs.declared.fault.DefsFault.TheVariants as bad
+use Rattle.def_tables.specs.declared.fault.DefsFault.{DefsFault}
+use Rattle.def_tables.specs.declared.fault.DefsFault.TheVariants as bad
 use Rattle.fp_model.specs.declared.definitions.Defs.{Defs}
 use Rattle.fp_model.specs.declared.scripts.Script.{Script}
 use Rattle.fp_source.specs.declared.part.Part.{Part}

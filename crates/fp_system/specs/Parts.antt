@@ -1,7 +1,7 @@
 -- What the parts of a source come to: a job, or the first reason why there is none.
 use Rattle.std.specs.Prelude.{◌≡◌, ⊤, ℕ, List, length, Bool, ◌==◌, if◌then◌else◌, Result, Ok, Err}
 use Rattle.fp_defs.specs.Exits.{defs_for}
-use Rattle.fp_defs.specs.declared.fault.DefsFault.{DefsFault}
+use Rattle.def_tables.specs.declared.fault.DefsFault.{DefsFault}
 use Rattle.fp_exits.specs.Kinds.{Kinds}
 use Rattle.fp_model.specs.LogText.{Front}
 use Rattle.log_groups.specs.Images.{in_format}

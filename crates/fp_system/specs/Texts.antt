@@ -1,8 +1,8 @@
 -- What the program says on standard error.
 use Rattle.std.specs.Prelude.{ℕ, List, [], ◌++◌, codes}
 use Rattle.std.specs.Fmt.{decimal, signed_decimal}
-use Rattle.fp_defs.specs.declared.fault.DefsFault.{DefsFault}
-use Rattle.fp_defs.specs.declared.fault.DefsFault.TheVariants as bad
+use Rattle.def_tables.specs.declared.fault.DefsFault.{DefsFault}
+use Rattle.def_tables.specs.declared.fault.DefsFault.TheVariants as bad
 use Rattle.fp_model.specs.Texts.{trimmed}
 use Rattle.fp_schedule.specs.declared.fault.ScheduleFault.{ScheduleFault}
 use Rattle.fp_schedule.specs.declared.fault.ScheduleFault.TheVariants as unfit

@@ -1,5 +1,5 @@
 use Rattle.std.proofs.Common.{◌≡◌, drop}
-use Rattle.fp_defs.specs.Keys.{occurs}
+use Rattle.def_tables.specs.Keys.{occurs}
 use Rattle.fp_defs.specs.Dedbs.{areas_named}
 use Rattle.fp_defs.proofs.areas.is_area_of_any.Given as goal
 

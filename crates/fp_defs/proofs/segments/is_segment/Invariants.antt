@@ -1,5 +1,5 @@
 use Rattle.std.proofs.Common.{◌≡◌, drop}
-use Rattle.fp_defs.specs.Keys.{occurs}
+use Rattle.def_tables.specs.Keys.{occurs}
 use Rattle.fp_defs.specs.Segments.{segment_names}
 use Rattle.fp_defs.proofs.segments.is_segment.Given as goal
 

@@ -1,6 +1,6 @@
 use Rattle.std.proofs.Common.{◌≡◌, [], drop, length, map}
 use Rattle.toml.specs.View.{table_view}
-use Rattle.fp_defs.specs.Readings.{in_turn}
+use Rattle.def_tables.specs.Readings.{in_turn}
 use Rattle.fp_defs.specs.Segments.{segment_of}
 use Rattle.fp_defs.proofs.segments.segments_of.Given as goal
 

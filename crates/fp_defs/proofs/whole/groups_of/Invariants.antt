@@ -1,6 +1,6 @@
 use Rattle.std.proofs.Common.{◌≡◌, [], drop}
 use Rattle.toml.specs.View.{items_view}
-use Rattle.fp_defs.specs.Readings.{in_turn}
+use Rattle.def_tables.specs.Readings.{in_turn}
 use Rattle.fp_defs.specs.Whole.{items_in, group_of}
 use Rattle.fp_defs.proofs.whole.groups_of.Given as goal
 

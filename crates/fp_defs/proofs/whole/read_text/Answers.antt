@@ -1,10 +1,10 @@
 use Rattle.std.proofs.Common.{◌≡◌, ◌≢◌, Result, Ok, Err, List, ℕ, sym, subst, arith, false, IsTrue}
 use Rattle.std.specs.Prelude.{IfOk, IfErr}
 use Rattle.fp_model.specs.declared.definitions.Defs.{Defs}
-use Rattle.fp_defs.specs.Readings.{Gives}
+use Rattle.def_tables.specs.Readings.{Gives}
 use Rattle.fp_defs.specs.Whole.{defs_of}
-use Rattle.fp_defs.specs.declared.fault.DefsFault.{DefsFault}
-use Rattle.fp_defs.specs.declared.fault.DefsFault.TheVariants.{Memory}
+use Rattle.def_tables.specs.declared.fault.DefsFault.{DefsFault}
+use Rattle.def_tables.specs.declared.fault.DefsFault.TheVariants.{Memory}
 use Rattle.fp_defs.proofs.WholeLemmas.{read_document, read_nothing}
 use Rattle.fp_defs.proofs.WholeKeeps.{given_are_defs}
 use Rattle.fp_defs.proofs.whole.read_text.Goals as goal

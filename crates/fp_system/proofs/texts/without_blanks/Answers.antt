@@ -1,6 +1,6 @@
 use Rattle.std.proofs.Common.{◌≡◌, ℕ, ◌-◌, [], ◌∷◌, ◌++◌, ◌∙◌, sym, ap, subst, refl, take, get_or, arith}
 use Rattle.fp_model.specs.Texts.{trimmed}
-use Rattle.fp_defs.proofs.TrimLemmas.{trimmed-blank, trimmed-other, take-last}
+use Rattle.def_tables.proofs.TrimLemmas.{trimmed-blank, trimmed-other, take-last}
 use Rattle.fp_system.proofs.texts.without_blanks.Goals as goal
 use Rattle.fp_system.proofs.texts.without_blanks.Goals.{then-loop-end-test+else-text-end-eq32, else-loop-end-test}
 

@@ -1,0 +1,9 @@
+pub mod KeyLemmas
+pub mod Loops
+pub mod TrimLemmas
+pub mod Steps
+pub mod ValueSteps
+pub mod FieldLemmas
+pub mod RowLemmas
+pub mod NumberLemmas
+pub mod TextLemmas

@@ -1,0 +1,11 @@
+use Rattle.std.proofs.Common.{sym, subst}
+use Rattle.std.specs.List.{AllByRecursion}
+use Rattle.def_tables.specs.Fields.{IsShort}
+use Rattle.def_tables.proofs.Steps.{some_from_ok}
+use Rattle.def_tables.proofs.FieldLemmas.{triples-short}
+use Rattle.def_tables.proofs.fields.fields_at.Goals as goal
+
+pub laid_out-requires-clause-short : goal.laid_out-requires-clause-short
+laid_out-requires-clause-short c =
+    subst (AllByRecursion IsShort) (sym c.as_slice-triples.ensures.value)
+    (triples-short _ _ (some_from_ok _ _ _ c.in_ok-read.ensures))

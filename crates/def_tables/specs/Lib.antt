@@ -1,0 +1,5 @@
+pub mod Readings
+pub mod Values
+pub mod Keys
+pub mod Fields
+pub mod Loads

@@ -1,8 +1,0 @@
-use Rattle.std.proofs.Common.{◌≡◌, ◌≤◌, ◌*◌, ◌++◌, drop}
-use Rattle.std.specs.List.{AllByRecursion}
-use Rattle.fp_defs.specs.Fields.{IsShort, laid_out}
-use Rattle.fp_defs.proofs.fields.laid_out.Given as goal
-
-abbrev pub invariant-loop-triple : goal.invariant-loop-triple
-invariant-loop-triple l = (l.fields ++ laid_out l.at (drop l.triple-index l.triples) ≡ laid_out 0 l.triples)
-    × (l.at ≤ 1024 * l.triple-index) × AllByRecursion IsShort (drop l.triple-index l.triples)
