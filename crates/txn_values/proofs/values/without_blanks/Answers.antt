@@ -1,8 +1,8 @@
 use Rattle.std.proofs.Common.{◌≡◌, ℕ, ◌-◌, [], ◌∷◌, ◌++◌, ◌∙◌, sym, ap, subst, refl, take, get_or, arith}
 use Rattle.fp_model.specs.Texts.{trimmed}
-use Rattle.txn_machine.proofs.TrimLemmas.{trimmed-blank, trimmed-other, take-last}
-use Rattle.txn_machine.proofs.values.without_blanks.Goals as goal
-use Rattle.txn_machine.proofs.values.without_blanks.Goals.{then-loop-end-test+else-text-end-eq32, else-loop-end-test}
+use Rattle.txn_values.proofs.TrimLemmas.{trimmed-blank, trimmed-other, take-last}
+use Rattle.txn_values.proofs.values.without_blanks.Goals as goal
+use Rattle.txn_values.proofs.values.without_blanks.Goals.{then-loop-end-test+else-text-end-eq32, else-loop-end-test}
 
 pub loop-end-preserved : goal.loop-end-preserved
 loop-end-preserved c =
