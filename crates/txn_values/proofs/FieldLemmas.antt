@@ -1,6 +1,5 @@
 -- Segments, a field at a time.
-use Rattle.std.proofs.Common.{◌≡◌, ◌∙◌, refl, sym, ap, arith, ℕ, suc, ◌+◌, ◌<◌, List, [], ◌∷◌, ◌++◌, length, drop, drop-cons, get_or, append_assoc, Option, Some, None}
-use Rattle.std.proofs.lemmas.List.{append-nil}
+use Rattle.std.proofs.Common.{◌≡◌, ◌∙◌, refl, sym, ap, arith, ℕ, suc, ◌+◌, ◌<◌, List, ◌∷◌, ◌++◌, length, drop, drop-cons, get_or, append_assoc, Option, Some, None}
 use Rattle.fp_model.specs.declared.definitions.FieldDef.{FieldDef}
 use Rattle.fp_model.specs.Values.{◌>>=◌, empty_field, empty_segment, value_bytes}
 use Rattle.fp_model.specs.Fsas.{with_field}

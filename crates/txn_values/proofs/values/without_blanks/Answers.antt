@@ -19,13 +19,16 @@ pub returns : goal.returns
 returns c =
     let t = c.args.text.now in
     let n = c.loop-end.end in
-    elim c.loop-end-test.branch [
-      | then-loop-end-test+else-text-end-eq32 w ↦
-          take-last t n (omega arith) (omega arith)
-          ∙ sym (trimmed-other (take (n - 1) t) (get_or t (n - 1) 0) w.if-text-end-eq32.false)
-          ∙ ap trimmed (sym (take-last t n (omega arith) (omega arith)))
-          ∙ c.loop-end.invariant.1
-      | else-loop-end-test w ↦
-          (let none : n ≡ 0 = omega arith in subst (λ (m : ℕ). take m t ≡ trimmed (take m t)) (sym none) refl) ∙
-          c.loop-end.invariant.1
-    ]
+    record {
+      exact =
+          elim c.loop-end-test.branch [
+            | then-loop-end-test+else-text-end-eq32 w ↦
+                take-last t n (omega arith) (omega arith)
+                ∙ sym (trimmed-other (take (n - 1) t) (get_or t (n - 1) 0) w.if-text-end-eq32.false)
+                ∙ ap trimmed (sym (take-last t n (omega arith) (omega arith)))
+                ∙ c.loop-end.invariant.1
+            | else-loop-end-test w ↦
+                (let none : n ≡ 0 = omega arith in subst (λ (m : ℕ). take m t ≡ trimmed (take m t)) (sym none) refl) ∙
+                c.loop-end.invariant.1
+          ];
+    }
