@@ -3,9 +3,7 @@ pub mod ShownLemmas
 pub mod SettingLemmas
 pub mod LessonLemmas
 pub mod PlaceLemmas
-pub mod TrimLemmas
-pub mod WordLemmas
-pub mod FieldLemmas
+pub mod FilledLemmas
 pub mod WorkLemmas
 pub mod EndLemmas
 pub mod StatementLemmas

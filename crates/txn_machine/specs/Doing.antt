@@ -3,8 +3,8 @@ use Rattle.std.specs.Prelude.{◌≡◌, ⊤, ℕ, zero, suc, List, [], ◌∷�
 use Rattle.std.specs.List.{AllByRecursion}
 use Rattle.fp_model.specs.Fsas.{Fsa, IsFsa}
 use Rattle.fp_model.specs.declared.scripts.Statement.TheOpen.{Statement-F, Set, If, Repeat, Break, Reply, Roll, Get, Fld, Isrt, Repl, Dlet}
-use Rattle.txn_machine.specs.declared.stop.Stop.{Stop}
-use Rattle.txn_machine.specs.declared.stop.Stop.TheVariants as stop
+use Rattle.txn_values.specs.declared.stop.Stop.{Stop}
+use Rattle.txn_values.specs.declared.stop.Stop.TheVariants as stop
 use Rattle.fp_model.specs.declared.calls.Message.{Message}
 use Rattle.fp_model.specs.declared.calls.Answer.{Answer}
 use Rattle.fp_model.specs.declared.definitions.Defs.{Defs}

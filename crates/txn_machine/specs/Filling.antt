@@ -9,12 +9,6 @@ use Rattle.fp_model.specs.Fsas.{Fsa, field_of, fsa_text, with_field}
 use Rattle.fp_model.specs.Values.{◌>>=◌, value_bytes}
 use Rattle.fp_model.specs.Operands.{Env, text_of}
 
--- a text as the value of a field of a segment
-abbrev pub field_filled : FieldDef → List ℕ → List ℕ → Option (List ℕ)
-field_filled field text segment = do
-  bytes ← value_bytes field text
-  Some (with_field field bytes segment)
-
 -- one value of those that fill a segment
 abbrev pub with_value : Defs → Message → Env → List FieldDef → FieldText → List ℕ → Option (List ℕ)
 with_value defs message env fields value segment = do

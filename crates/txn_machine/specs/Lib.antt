@@ -2,9 +2,7 @@ pub mod Alike
 pub mod Doing
 pub mod Filling
 pub mod Fit
-pub mod Giving
 pub mod Knowing
-pub mod Lending
 pub mod Places
 pub mod Running
 pub mod Stepping

@@ -8,19 +8,18 @@ ghost use Rattle.fp_model.specs.Fsas.{Fsa as Argument, IsFsa, list_text};
 ghost use Rattle.fp_model.specs.Operands.{filled, fsas_given, fld_call, get_call, isrt_call, new_type, repl_call, shown_on, ssa_of, ssas_of};
 ghost use Rattle.fp_model.specs.Values.{layout_of};
 ghost use Rattle.fld_calls.specs.Forms.{lent_form_of};
+ghost use Rattle.txn_values.specs.Giving.{Gives, PutsIn, Stops};
 ghost use Rattle.txn_machine.specs.Filling.{fsa_given, with_fsa_text, with_value};
-ghost use Rattle.txn_machine.specs.Giving.{Gives, PutsIn, Stops};
 ghost use Rattle.txn_machine.specs.Knowing.{env_of, segment_on};
 
-use crate::fields::{Layout, empty_segment, field_of, fill_field, layout_of};
 use crate::known::Known;
 use crate::shown::Shown;
-use crate::stop::Stop;
 use fld_calls::{LentFsa, append_fsa};
 use fp_model::{
     Bytes, Call, Defs, FieldDef, FieldText, FsaText, Get, List, Message, Name, Operand, Ssa,
     SsaText,
 };
+use txn_values::{Layout, Stop, empty_segment, field_of, fill_field, layout_of};
 
 // Room for the bytes of a field search argument; one with a long operand takes more.
 const FSA_ROOM: usize = 32;
@@ -148,7 +147,7 @@ impl Known {
     }
 
     // A segment with values put into its fields.
-    #[tactic(auto, using(crate::proofs::FieldLemmas::filled_none, crate::proofs::FieldLemmas::filled_more))]
+    #[tactic(auto, using(crate::proofs::FilledLemmas::filled_none, crate::proofs::FilledLemmas::filled_more))]
     fn filled(
         &self,
         defs: &Defs,

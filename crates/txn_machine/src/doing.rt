@@ -5,9 +5,9 @@ ghost use Rattle.txn_machine.specs.Doing.{Does, IsCall, Spells, Tries, deed_of_l
 ghost use Rattle.txn_machine.specs.Stepping.{Costs};
 
 use crate::known::Known;
-use crate::stop::Stop;
 use fp_model::{Bytes, Call, Defs, Message, Name, Statement};
 use std::alloc::AllocError;
+use txn_values::Stop;
 
 /// The rollback code of a script that has no value where it needs one.
 const NO_VALUE: u16 = 99;

@@ -3,14 +3,10 @@
 
 mod calls;
 mod doing;
-mod fields;
 mod known;
-mod lent;
 mod operands;
 mod place;
 mod program;
 mod shown;
-mod stop;
-mod values;
 
 pub use program::{Next, Program};

@@ -5,17 +5,17 @@ ghost use Rattle.fp_model.specs.Operands.{chosen, joined_texts, key_text, reply_
 ghost use Rattle.fp_model.specs.declared.calls.Message.{Message as MessageOf};
 ghost use Rattle.fp_model.specs.Values.{short_enough};
 ghost use Rattle.fp_model.specs.Texts.{is_printable};
-ghost use Rattle.txn_machine.specs.Giving.{Gives, GivesAs};
+ghost use Rattle.txn_values.specs.Giving.{Gives, GivesAs};
+ghost use Rattle.txn_values.specs.Lending.{bytes_in};
 ghost use Rattle.txn_machine.specs.Knowing.{env_of, status_of};
-ghost use Rattle.txn_machine.specs.Lending.{bytes_in};
 
-use crate::fields::{field_bytes, field_of, layout_of, value_text};
 use crate::known::Known;
-use crate::lent::OperandText;
-use crate::stop::Stop;
-use crate::values::{compares, operated, without_blanks, word_of};
 use fp_model::{Bytes, Comparison, Defs, List, Message, Name, Operand, Operation};
 use std::alloc::{AllocError, Global};
+use txn_values::{
+    OperandText, Stop, compares, field_bytes, field_of, layout_of, operated, value_text,
+    without_blanks, word_of,
+};
 
 // How many bytes a value has at most.
 const LONGEST_VALUE: usize = 1024;

@@ -2,7 +2,7 @@ use Rattle.std.proofs.Common.{◌≡◌, ℕ, subst, Some}
 use Rattle.std.specs.Prelude.{IfOk, IfErr}
 use Rattle.fp_model.specs.Operands.{new_type}
 use Rattle.fp_model.specs.Values.{layout_of}
-use Rattle.txn_machine.specs.Giving.{Stops}
+use Rattle.txn_values.specs.Giving.{Stops}
 use Rattle.txn_machine.proofs.calls.new_layout.Goals as goal
 
 pub returns-clause-ok : goal.returns-clause-ok

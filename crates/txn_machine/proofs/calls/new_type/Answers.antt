@@ -1,6 +1,6 @@
 use Rattle.std.proofs.Common.{◌∙◌, ap, arith}
 use Rattle.fp_model.specs.declared.scripts.SsaText.{SsaText}
-use Rattle.txn_machine.proofs.FieldLemmas.{last_type}
+use Rattle.txn_machine.proofs.FilledLemmas.{last_type}
 use Rattle.txn_machine.proofs.calls.new_type.Goals as goal
 
 pub returns-in-len1-up : goal.returns-in-len1-up

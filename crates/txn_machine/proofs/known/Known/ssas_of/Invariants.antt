@@ -1,7 +1,7 @@
 use Rattle.std.proofs.Common.{◌≡◌, drop, []}
 use Rattle.fp_model.specs.Operands.{ssas_of}
 use Rattle.txn_machine.specs.Knowing.{env_of}
-use Rattle.txn_machine.proofs.FieldLemmas.{prefixed}
+use Rattle.txn_values.proofs.FieldLemmas.{prefixed}
 use Rattle.txn_machine.proofs.known.Known.ssas_of.Given as goal
 
 abbrev pub invariant-loop-ssa : goal.invariant-loop-ssa

@@ -1,8 +1,8 @@
 use Rattle.std.proofs.Common.{◌≡◌, ◌∙◌, ℕ, ◌+◌, ◌-◌, drop, length, ap, arith, rules}
 use borrow.Rule.Slice.PartMut.{post_of}
 use Rattle.std.proofs.lemmas.List.{drop-drop}
-use Rattle.txn_machine.proofs.FieldLemmas.{put_is_filled}
-use Rattle.txn_machine.proofs.fields.put_within.Goals as goal
+use Rattle.txn_values.proofs.FieldLemmas.{put_is_filled}
+use Rattle.txn_values.proofs.fields.put_within.Goals as goal
 
 pub returns : goal.returns
 returns c =

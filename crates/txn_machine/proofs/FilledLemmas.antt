@@ -1,63 +1,17 @@
--- Segments, a field at a time.
-use Rattle.std.proofs.Common.{◌≡◌, ◌∙◌, refl, sym, ap, arith, ℕ, suc, ◌+◌, ◌-◌, ◌<◌, List, [], ◌∷◌, ◌++◌, length, drop, drop-cons, get_or, append_assoc, Option, Some, None}
-use Rattle.std.proofs.lemmas.List.{append-nil}
-use Rattle.fp_model.specs.declared.definitions.FieldDef.{FieldDef}
-use Rattle.fp_model.specs.Values.{◌>>=◌, empty_field, empty_segment, value_bytes}
-use Rattle.fp_model.specs.Operands.{Env, filled, new_type, text_of}
-use Rattle.fp_model.specs.Fsas.{field_of, with_field}
+-- Values put into a segment one after another, and the type that the last argument names.
+use Rattle.std.proofs.Common.{◌≡◌, ◌∙◌, refl, ap, arith, ℕ, suc, ◌+◌, ◌-◌, ◌<◌, List, [], ◌∷◌, length, drop, get_or, Option, Some, None}
 use Rattle.fp_model.specs.declared.definitions.Defs.{Defs}
+use Rattle.fp_model.specs.declared.definitions.FieldDef.{FieldDef}
 use Rattle.fp_model.specs.declared.calls.Message.{Message}
 use Rattle.fp_model.specs.declared.scripts.FieldText.{FieldText}
 use Rattle.fp_model.specs.declared.scripts.SsaText.{SsaText}
-use Rattle.std.specs.Prelude.{⊤, Result, Ok, Err, take}
-use Rattle.txn_machine.specs.declared.stop.Stop.{Stop}
-use Rattle.txn_machine.specs.declared.stop.Stop.TheVariants as stop
-use Rattle.txn_machine.specs.Giving.{PutsIn}
-use Rattle.txn_machine.specs.Filling.{field_filled, with_value}
+use Rattle.fp_model.specs.Fsas.{field_of, with_field}
+use Rattle.fp_model.specs.Operands.{Env, filled, new_type, text_of}
+use Rattle.fp_model.specs.Values.{◌>>=◌, value_bytes}
+use Rattle.txn_machine.specs.Filling.{with_value}
+use Rattle.txn_values.proofs.FieldLemmas.{rest_at}
 
--- a list in front of one that there may be
-abbrev pub prefixed : {A : Type 0} → List A → Option (List A) → Option (List A)
-prefixed front None = None
-prefixed front (Some text) = Some (front ++ text)
-
-prefixed_both : (front bytes : List ℕ) (others : Option (List ℕ))
-    → prefixed front (others >>= (λ o. Some (bytes ++ o))) ≡ prefixed (front ++ bytes) others
-prefixed_both front bytes None = refl
-prefixed_both front bytes (Some o) = ap (λ (t : List ℕ). Some t) (sym (append_assoc front bytes o))
-
--- one field more
-pub empty_more : (front bytes : List ℕ) (f : FieldDef) (fs : List FieldDef) → empty_field f ≡ Some bytes
-    → prefixed front (empty_segment (f ∷ fs)) ≡ prefixed (front ++ bytes) (empty_segment fs)
-empty_more front bytes f fs is = ap (λ (x : Option (List ℕ)). prefixed front
-    (x >>= (λ b. empty_segment fs >>= (λ o. Some (b ++ o))))) is ∙ prefixed_both front bytes (empty_segment fs)
-
--- a field that holds no zero
-pub empty_none : (front : List ℕ) (f : FieldDef) (fs : List FieldDef) → empty_field f ≡ None
-    → prefixed front (empty_segment (f ∷ fs)) ≡ None
-empty_none front f fs is = ap (λ (x : Option (List ℕ)). prefixed front
-    (x >>= (λ b. empty_segment fs >>= (λ o. Some (b ++ o))))) is
-
-pub rest_at : {X : Type 0} (xs : List X) (i : ℕ) (x : X) → i < length xs → x ≡ get_or xs i x
-    → drop i xs ≡ x ∷ drop (i + 1) xs
-rest_at {X} xs i x lt is =
-    let next : suc i ≡ i + 1 = omega arith in
-    drop-cons xs i x lt ∙ ap (λ (y : X). y ∷ drop (suc i) xs) (sym is) ∙ ap (λ (k : ℕ). x ∷ drop k xs) next
-
--- the bytes of a field put in their place, where they are a value
-pub put_is_filled : (field : FieldDef) (segment new text : List ℕ) (r : Result ⊤ Stop) → length new ≡ field.length
-    → PutsIn r new (value_bytes field text)
-    → PutsIn r (take field.at segment ++ (new ++ drop (field.at + field.length) segment))
-    (field_filled field text segment)
-put_is_filled field segment new text (Ok done) long is =
-    ap (λ (o : Option (List ℕ)). o >>= (λ bytes. Some (with_field field bytes segment))) is
-    ∙ ap (λ (n : ℕ). Some (take field.at segment ++ new ++ drop (field.at + n) segment)) long
-    ∙ ap (λ (bytes : List ℕ). Some bytes) (append_assoc (take field.at segment) new
-    (drop (field.at + field.length) segment))
-put_is_filled field segment new text (Err stop.NoValue) long is =
-    ap (λ (o : Option (List ℕ)). o >>= (λ bytes. Some (with_field field bytes segment))) is
-put_is_filled field segment new text (Err stop.Memory) long is = tt
-
--- values one after another
+-- one value, and those behind it
 then_filled : {A B C D : Type 0} (m : Option A) (f : A → Option B) (g : A → B → Option C) (h : A → B → C → D)
     (k : D → Option D)
     → (m >>= (λ a. f a >>= (λ b. g a b >>= (λ c. k (h a b c))))) ≡

@@ -3,7 +3,7 @@ use Rattle.std.specs.Str.{all_ascii_digits}
 use Rattle.std.proofs.lemmas.List.{take_more}
 use Rattle.fp_model.specs.Texts.{value}
 use Rattle.fld_calls.proofs.Digits.{figures, digits_snoc, number_snoc, not_all_digits, no_number, prefix_below}
-use Rattle.txn_machine.proofs.values.digits_number.Goals as goal
+use Rattle.txn_values.proofs.values.digits_number.Goals as goal
 
 pub returns-then-not-is_ascii_digit-clause-exact : goal.returns-then-not-is_ascii_digit-clause-exact
 returns-then-not-is_ascii_digit-clause-exact c =

@@ -5,9 +5,9 @@ ghost use Rattle.fp_model.specs.Fsas.{field_bytes, field_of, with_field};
 ghost use Rattle.fp_model.specs.Numbers.{bytes_of, number};
 ghost use Rattle.fp_model.specs.Values.{empty_field, empty_segment, fitted, fitted_key, layout_of, value_bytes, value_text};
 ghost use Rattle.fp_model.specs.Texts.{padded};
-ghost use Rattle.txn_machine.specs.Filling.{field_filled};
-ghost use Rattle.txn_machine.specs.Giving.{Gives, GivesAs, PutsIn, Stops};
-ghost use Rattle.txn_machine.specs.Lending.{bytes_in};
+ghost use Rattle.txn_values.specs.Fields.{field_filled};
+ghost use Rattle.txn_values.specs.Giving.{Gives, GivesAs, PutsIn, Stops};
+ghost use Rattle.txn_values.specs.Lending.{bytes_in};
 
 use crate::lent::OperandText;
 use crate::stop::Stop;
@@ -18,13 +18,16 @@ use std::alloc::{AllocError, Global};
 
 /// A segment type: its fields, and whether the first of them is a key.
 #[derive(Clone, Copy)]
-pub(crate) struct Layout<'a> {
-    pub(crate) fields: &'a [FieldDef],
-    pub(crate) has_key: bool,
+pub struct Layout<'a> {
+    /// Its fields, in the order of the definitions.
+    pub fields: &'a [FieldDef],
+    /// Whether its first field is a key. A sequential segment has none.
+    pub has_key: bool,
 }
 
-/// The segment type of a number in a database; a main storage database has one.
-pub(crate) fn layout_of(defs: &Defs, db: u8, type_number: u8) -> Result<Layout<'_>, Stop>
+/// The segment type of a number in a database; a main storage database has one. `NoValue` where there is no such
+/// database or type. Takes no memory.
+pub fn layout_of(defs: &Defs, db: u8, type_number: u8) -> Result<Layout<'_>, Stop>
     ensures ok { IfOk result (λ layout. layout_of defs.now db type_number
         ≡ Some (record { fields = layout.fields.now; has_key = layout.has_key })) }
     ensures err { IfErr result (λ e. Stops e (layout_of defs.now db type_number)) }
@@ -48,9 +51,9 @@ pub(crate) fn layout_of(defs: &Defs, db: u8, type_number: u8) -> Result<Layout<'
     })
 }
 
-/// The field of a name.
-pub(crate) fn field_of(fields: &[FieldDef], name: &Name) -> Result<FieldDef, Stop>
-    ensures { Gives result (field_of fields.now name.now.0) }
+/// The first field of a name. `NoValue` where there is none. Takes no memory.
+pub fn field_of(fields: &[FieldDef], name: &Name) -> Result<FieldDef, Stop>
+    ensures exact { Gives result (field_of fields.now name.now.0) }
 {
     for field in fields {
         if field.name == *name {
@@ -82,9 +85,9 @@ fn behind(bytes: &[u8], count: usize) -> &[u8]
     }
 }
 
-/// The bytes of a field.
-pub(crate) fn field_bytes<'a>(field: &FieldDef, segment: &'a [u8]) -> &'a [u8]
-    ensures { result.now ≡ field_bytes field.now segment.now }
+/// The bytes of a field in a segment, as far as the segment has them.
+pub fn field_bytes<'a>(field: &FieldDef, segment: &'a [u8]) -> &'a [u8]
+    ensures exact { result.now ≡ field_bytes field.now segment.now }
 {
     front(
         behind(segment, usize::from(field.at)),
@@ -194,14 +197,15 @@ fn put_within(field: &FieldDef, segment: &mut [u8], text: &[u8]) -> Result<(), S
     put_value(field, held, text)
 }
 
-/// A segment with a text as the value of a field, if it fits. Takes no memory where the segment has all of the field.
-pub(crate) fn fill_field(
+/// A segment with a text as the value of a field. `NoValue` where the text isn't a value of the field, as a number with
+/// too many digits; `Memory` for want of memory. Takes none where the segment has all of the field.
+pub fn fill_field(
     alloc: Global,
     field: &FieldDef,
     text: &[u8],
     segment: Bytes,
 ) -> Result<Bytes, Stop>
-    ensures { Gives result (field_filled field.now text.now segment) }
+    ensures exact { Gives result (field_filled field.now text.now segment) }
 {
     if usize::from(field.at) + usize::from(field.length) > segment.len() {
         let bytes = value_bytes(alloc, field, text)?;
@@ -236,13 +240,14 @@ fn empty_field(alloc: Global, field: &FieldDef) -> Result<Bytes, Stop>
     }
 }
 
-/// The bytes of a field as a text. None where they are to be a number and aren't.
-pub(crate) fn value_text<'a>(
+/// The bytes of a field as a text: characters without the blanks at their end, lent, or a number, made. `NoValue` where
+/// they are to be a number and aren't; `Memory` for want of memory.
+pub fn value_text<'a>(
     alloc: Global,
     field: &FieldDef,
     bytes: &'a [u8],
 ) -> Result<OperandText<'a>, Stop>
-    ensures { GivesAs bytes_in result (value_text field.now bytes.now) }
+    ensures exact { GivesAs bytes_in result (value_text field.now bytes.now) }
 {
     if is_text(field.kind) {
         return Ok(OperandText::Lent(without_blanks(bytes)));
@@ -262,9 +267,10 @@ fn size_of(fields: &[FieldDef]) -> usize {
     size
 }
 
-/// A segment before values are put there: blanks and zeros.
-pub(crate) fn empty_segment(alloc: Global, fields: &[FieldDef]) -> Result<Bytes, Stop>
-    ensures { Gives result (empty_segment fields.now) }
+/// A segment before values are put there: blanks and zeros. `NoValue` where a field has no form of zero; `Memory` for
+/// want of memory.
+pub fn empty_segment(alloc: Global, fields: &[FieldDef]) -> Result<Bytes, Stop>
+    ensures exact { Gives result (empty_segment fields.now) }
 {
     let mut segment = Bytes::with_capacity(alloc, size_of(fields))?;
     for field in fields {
@@ -275,9 +281,10 @@ pub(crate) fn empty_segment(alloc: Global, fields: &[FieldDef]) -> Result<Bytes,
 }
 
 impl Layout<'_> {
-    /// A text as a key, with blanks behind it; a type without keys takes it as it is.
-    pub(crate) fn fitted_key(&self, alloc: Global, text: &[u8]) -> Result<Bytes, Stop>
-        ensures { Gives result (fitted_key (record { fields = self.now.fields.now; has_key = self.now.has_key })
+    /// A text as a key, with blanks behind it; a type without keys takes it as it is. `NoValue` where it is longer than
+    /// the key; `Memory` for want of memory.
+    pub fn fitted_key(&self, alloc: Global, text: &[u8]) -> Result<Bytes, Stop>
+        ensures exact { Gives result (fitted_key (record { fields = self.now.fields.now; has_key = self.now.has_key })
             text.now) }
     {
         if self.has_key {

@@ -4,7 +4,7 @@ ghost use Rattle.std.specs.Ordering.{int_cmp};
 ghost use Rattle.fp_model.specs.Messages.{is_separator};
 ghost use Rattle.fp_model.specs.Values.{compares, number_text, of_numbers, operated, short_enough, word_of, words};
 ghost use Rattle.fp_model.specs.Texts.{decimal_text, digits_number, number_in, same_text, trimmed};
-ghost use Rattle.txn_machine.specs.Giving.{Gives};
+ghost use Rattle.txn_values.specs.Giving.{Gives};
 
 use crate::stop::Stop;
 use fp_model::{Bytes, Comparison, Operation};
@@ -54,8 +54,8 @@ fn word_behind(text: &[u8], before: u8) -> &[u8]
 }
 
 /// A text itself for 0, and else its word of that number, counted from 1; a missing one is empty.
-pub(crate) fn word_of(text: &[u8], number: u8) -> &[u8]
-    ensures { result.now ≡ word_of text.now number }
+pub fn word_of(text: &[u8], number: u8) -> &[u8]
+    ensures exact { result.now ≡ word_of text.now number }
 {
     if number == 0 {
         text
@@ -65,8 +65,8 @@ pub(crate) fn word_of(text: &[u8], number: u8) -> &[u8]
 }
 
 /// A text without the blanks at its end.
-pub(crate) fn without_blanks(text: &[u8]) -> &[u8]
-    ensures { result.now ≡ trimmed text.now }
+pub fn without_blanks(text: &[u8]) -> &[u8]
+    ensures exact { result.now ≡ trimmed text.now }
 {
     let mut end = text.len();
     while end > 0 && text[end - 1] == b' ' {
@@ -179,14 +179,10 @@ fn joined(alloc: Global, a: &[u8], b: &[u8]) -> Result<Bytes, Stop>
     Ok(text)
 }
 
-/// Two values under an operation.
-pub(crate) fn operated(
-    alloc: Global,
-    operation: Operation,
-    a: &[u8],
-    b: &[u8],
-) -> Result<Bytes, Stop>
-    ensures { Gives result (operated operation a.now b.now) }
+/// Two values under an operation. `NoValue` where a text that is to be a number is none, where the result has more than
+/// 31 digits, and where joined texts have more than 1024 bytes; `Memory` for want of memory.
+pub fn operated(alloc: Global, operation: Operation, a: &[u8], b: &[u8]) -> Result<Bytes, Stop>
+    ensures exact { Gives result (operated operation a.now b.now) }
 {
     match operation {
         Operation::Add => sum_text(alloc, number(a)?, number(b)?),
@@ -212,9 +208,10 @@ fn order(a: &[u8], b: &[u8]) -> Result<Ordering, Stop>
     Ok(m.cmp(&n))
 }
 
-/// Whether a comparison holds.
-pub(crate) fn compares(comparison: Comparison, a: &[u8], b: &[u8]) -> Result<bool, Stop>
-    ensures { Gives result (compares comparison a.now b.now) }
+/// Whether a comparison holds: as texts but for blanks at their ends where it is of equality, and else as numbers.
+/// `NoValue` where a text that is to be a number is none. Takes no memory.
+pub fn compares(comparison: Comparison, a: &[u8], b: &[u8]) -> Result<bool, Stop>
+    ensures exact { Gives result (compares comparison a.now b.now) }
 {
     match comparison {
         Comparison::Equal => Ok(same_text(a, b)),

@@ -5,7 +5,7 @@ use std::alloc::AllocError;
 
 /// Why a value is not there.
 #[derive(Clone, Copy)]
-pub(crate) enum Stop {
+pub enum Stop {
     /// There is no such value: the script ends with code 99.
     NoValue,
     /// There was no memory.
@@ -13,7 +13,7 @@ pub(crate) enum Stop {
 }
 
 impl From<AllocError> for Stop {
-    ghost use Rattle.txn_machine.specs.declared.stop.Stop.TheVariants as stop;
+    ghost use Rattle.txn_values.specs.declared.stop.Stop.TheVariants as stop;
 
     ghost from_gives = { λ _ e. e ≡ stop.Memory };
 

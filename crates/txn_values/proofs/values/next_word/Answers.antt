@@ -4,8 +4,8 @@ use Rattle.std.proofs.lemmas.Iterator.Search.{position_from_yields_List}
 use Rattle.std.proofs.lemmas.Grind.{common_steps}
 use Rattle.fp_model.specs.Messages.{is_separator}
 use Rattle.fp_model.specs.Values.{words}
-use Rattle.txn_machine.proofs.WordLemmas.{is_other, no_words, place_is, place_within, take_rest, whole_is, words_at, words_alone}
-use Rattle.txn_machine.proofs.values.next_word.Goals as goal
+use Rattle.txn_values.proofs.WordLemmas.{is_other, no_words, place_is, place_within, take_rest, whole_is, words_at, words_alone}
+use Rattle.txn_values.proofs.values.next_word.Goals as goal
 
 pub returns-in_err-start-clause-none : goal.returns-in_err-start-clause-none
 returns-in_err-start-clause-none c =

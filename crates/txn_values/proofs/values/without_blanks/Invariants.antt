@@ -1,6 +1,6 @@
 use Rattle.std.proofs.Common.{◌≡◌, ◌≤◌, take, length}
 use Rattle.fp_model.specs.Texts.{trimmed}
-use Rattle.txn_machine.proofs.values.without_blanks.Given as goal
+use Rattle.txn_values.proofs.values.without_blanks.Given as goal
 
 abbrev pub invariant-loop-end : goal.invariant-loop-end
 invariant-loop-end l = (l.end ≤ length l.text) × (trimmed (take l.end l.text) ≡ trimmed l.text)

@@ -1,6 +1,6 @@
 use Rattle.std.proofs.Common.{◌≡◌, drop}
 use Rattle.fp_model.specs.Fsas.{field_of}
-use Rattle.txn_machine.proofs.fields.field_of.Given as goal
+use Rattle.txn_values.proofs.fields.field_of.Given as goal
 
 -- the fields so far have other names
 abbrev pub invariant-loop-field : goal.invariant-loop-field

@@ -1,7 +1,7 @@
 -- What a function gives that works out a value.
 use Rattle.std.specs.Prelude.{◌≡◌, ℕ, List, ⊤, Option, Some, None, Result, Ok, Err}
-use Rattle.txn_machine.specs.declared.stop.Stop.{Stop}
-use Rattle.txn_machine.specs.declared.stop.Stop.TheVariants as stop
+use Rattle.txn_values.specs.declared.stop.Stop.{Stop}
+use Rattle.txn_values.specs.declared.stop.Stop.TheVariants as stop
 
 -- No value is given exactly where there is none; want of memory says nothing.
 abbrev pub Stops : {Y : Type 0} → Stop → Option Y → Type 0

@@ -1,4 +1,4 @@
-use Rattle.txn_machine.proofs.values.+word_behind.Given as goal
+use Rattle.txn_values.proofs.values.+word_behind.Given as goal
 
 abbrev pub decreases-word_behind : goal.decreases-word_behind
 decreases-word_behind l = l.before

@@ -1,0 +1,3 @@
+pub mod FieldLemmas
+mod TrimLemmas
+mod WordLemmas
