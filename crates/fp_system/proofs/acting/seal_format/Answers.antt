@@ -84,7 +84,7 @@ returns-in-Ok-clause-front g c t =
     let new = g.T.Site.disk c.seal.new.site in
     let gate = c.append_format.new.log.gate in
     fronts_from old new c.args.log.now.gate gate c.append_format.ensures.gate
-    (fronts_sealing old new gate c.seal.new.self.gate (λ durable long. c.seal.ensures.front t durable long))
+    (fronts_sealing old new gate c.seal.new.self.gate (c.seal.ensures.front t))
 
 pub returns-in-Err-clause-front : goal.returns-in-Err-clause-front
 returns-in-Err-clause-front g c t =
@@ -92,4 +92,4 @@ returns-in-Err-clause-front g c t =
     let new = g.T.Site.disk c.seal.new.site in
     let gate = c.append_format.new.log.gate in
     fronts_from old new c.args.log.now.gate gate c.append_format.ensures.gate
-    (fronts_sealing old new gate c.seal.new.self.gate (λ durable long. c.seal.ensures.front t durable long))
+    (fronts_sealing old new gate c.seal.new.self.gate (c.seal.ensures.front t))

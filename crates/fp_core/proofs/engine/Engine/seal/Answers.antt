@@ -146,7 +146,7 @@ returns-then-is_empty-clause-front_on g c told =
 pub returns-in_err-count-clause-front : goal.returns-in_err-count-clause-front
 returns-in_err-count-clause-front g c told =
     fronts_sealing (g.T.Site.disk c.args.site.now) (g.T.Site.disk c.seal.new.site) c.args.self.now.log.gate
-    c.seal.new.self.gate (λ durable long. c.seal.ensures.front told durable long)
+    c.seal.new.self.gate (c.seal.ensures.front told)
 
 pub returns-in_err-tell-clause-front : goal.returns-in_err-tell-clause-front
 returns-in_err-tell-clause-front g c told =
@@ -158,9 +158,8 @@ returns-in_err-tell-clause-front g c told =
     let next = c.seal.new.self.gate in
     let law1 = g.met.T.Site.lawful c.seal.new.site told1 in
     let law2 = g.met.T.Site.lawful c.tell.new.site (c.tell.ensures.site.still_told told1) in
-    let front = λ durable long. c.seal.ensures.front told durable long in
-    fronts_on old mid new gate next (fronts_sealing old mid gate next front)
-    (holds_sealed old mid gate next front law1 (take c.args.self.now.defs.now.log_group c.args.self.now.log.unsealed)
+    fronts_on old mid new gate next (fronts_sealing old mid gate next (c.seal.ensures.front told))
+    (holds_sealed old mid gate next (c.seal.ensures.front told) law1 (take c.args.self.now.defs.now.log_group c.args.self.now.log.unsealed)
     (λ f groups is. c.in_ok-count.ensures.kept f groups told is))
     (fronts_sent mid new (replies_of (take c.in_ok-count.count c.args.self.now.owed.items)) next law1 law2
     (c.tell.ensures.same told1) (c.tell.ensures.crash told1))
@@ -175,9 +174,8 @@ returns-clause-front g c told =
     let next = c.seal.new.self.gate in
     let law1 = g.met.T.Site.lawful c.seal.new.site told1 in
     let law2 = g.met.T.Site.lawful c.tell.new.site (c.tell.ensures.site.still_told told1) in
-    let front = λ durable long. c.seal.ensures.front told durable long in
-    fronts_on old mid new gate next (fronts_sealing old mid gate next front)
-    (holds_sealed old mid gate next front law1 (take c.args.self.now.defs.now.log_group c.args.self.now.log.unsealed)
+    fronts_on old mid new gate next (fronts_sealing old mid gate next (c.seal.ensures.front told))
+    (holds_sealed old mid gate next (c.seal.ensures.front told) law1 (take c.args.self.now.defs.now.log_group c.args.self.now.log.unsealed)
     (λ f groups is. c.in_ok-count.ensures.kept f groups told is))
     (fronts_sent mid new (replies_of (take c.in_ok-count.count c.args.self.now.owed.items)) next law1 law2
     (c.tell.ensures.same told1) (c.tell.ensures.crash told1))
@@ -192,9 +190,8 @@ returns-clause-front_on g c told =
     let next = c.seal.new.self.gate in
     let law1 = g.met.T.Site.lawful c.seal.new.site told1 in
     let law2 = g.met.T.Site.lawful c.tell.new.site (c.tell.ensures.site.still_told told1) in
-    let front = λ durable long. c.seal.ensures.front told durable long in
     holds_on old mid new gate next next
-    (holds_sealed old mid gate next front law1 (take c.args.self.now.defs.now.log_group c.args.self.now.log.unsealed)
+    (holds_sealed old mid gate next (c.seal.ensures.front told) law1 (take c.args.self.now.defs.now.log_group c.args.self.now.log.unsealed)
     (λ f groups is. c.in_ok-count.ensures.kept f groups told is))
     (holds_sent mid new (replies_of (take c.in_ok-count.count c.args.self.now.owed.items)) next law1 law2
     (c.tell.ensures.same told1) (c.tell.ensures.crash told1))
