@@ -1,1 +1,3 @@
-pub mod Samples
+pub mod Areas
+pub mod Bank
+pub mod Types
