@@ -24,14 +24,14 @@ enum Step {
 }
 
 /// An empty interval is one free element.
-static EMPTY: [Step; 3] = [
+const EMPTY: &[Step] = &[
     Step::IsEmpty(true),
     Step::Bytes(0, &[2, 0, 0, 0]),
     Step::Bytes(32, &[1, 224, 0, 0]),
 ];
 
 /// Elements are taken from the front.
-static TAKEN: [Step; 8] = [
+const TAKEN: &[Step] = &[
     Step::Take(10, Some(32)),
     Step::Take(20, Some(48)),
     Step::Take(437, None),
@@ -43,7 +43,7 @@ static TAKEN: [Step; 8] = [
 ];
 
 /// A type and a content are written and read.
-static WRITTEN: [Step; 12] = [
+const WRITTEN: &[Step] = &[
     Step::Take(5, Some(32)),
     Step::IsUsed(32, true),
     Step::Used(32, 0, 8),
@@ -59,7 +59,7 @@ static WRITTEN: [Step; 12] = [
 ];
 
 /// Free neighbours merge.
-static MERGED: [Step; 8] = [
+const MERGED: &[Step] = &[
     Step::Take(4, Some(32)),
     Step::Take(4, Some(40)),
     Step::Take(4, Some(48)),
@@ -69,6 +69,9 @@ static MERGED: [Step; 8] = [
     Step::IsEmpty(true),
     Step::Bytes(32, &[1, 224, 0, 0]),
 ];
+
+/// Each over a base interval of its own.
+static RUNS: [&[Step]; 4] = [EMPTY, TAKEN, WRITTEN, MERGED];
 
 /// Takes an element for these bytes and writes them. Whether it stands there.
 fn puts(interval: &mut Interval, bytes: &[u8], at: u16) -> bool {
@@ -127,8 +130,7 @@ fn first_wrong(interval: &mut Interval, steps: &[Step]) -> Option<usize> {
 
 #[test]
 fn steps_on_a_base_interval(rt: HostRuntime) -> Result<(), Fail> {
-    let runs: [&[Step]; 4] = [&EMPTY, &TAKEN, &WRITTEN, &MERGED];
-    for (number, steps) in runs.iter().enumerate() {
+    for (number, steps) in RUNS.iter().enumerate() {
         let mut interval = Interval::empty(rt.alloc(), 512, 2)?;
         assert!(rt; interval.size() == 512);
         assert!(rt;

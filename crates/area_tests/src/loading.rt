@@ -59,10 +59,10 @@ fn bytes(
 }
 
 /// The area, with some bytes changed.
-fn area(alloc: Global, changes: &[Change]) -> Result<MemoryArea, AllocError> {
+fn area(alloc: Global, changes: &[Change]) -> Result<MemoryArea, Fail> {
     let mut area = MemoryArea::new(alloc);
     for (number, front) in FRONTS.iter().enumerate() {
-        area.add_bytes(bytes(alloc, front, number, changes)?)?;
+        area.add_bytes(&bytes(alloc, front, number, changes)?)?;
     }
     Ok(area)
 }

@@ -1,18 +1,19 @@
 //! An area in memory: it counts its calls, and fails to give an interval when it is told to.
-ghost use Rattle.area_tests.specs.Areas.{IsReadFault};
-ghost use Rattle.ci_space.specs.Interval.{IsInterval, is_kind};
-ghost use Rattle.std.specs.Prelude.{◌≡◌, [], length, refl, IfOk, IfErr, IsTrue};
+ghost use Rattle.ci_space.specs.Interval.{is_kind};
+ghost use Rattle.std.specs.Prelude.{◌≡◌, [], length, refl, IfOk, IsTrue};
 
 use ci_space::{GetFault, Head, Interval, Intervals, Memory, Shape};
-use fp_model::Bytes;
 use std::alloc::{AllocError, Global};
 use std::test::Fail;
 
-/// Intervals of 512 bytes, or bytes that are none. No clause says what they hold.
+/// Intervals of 512 bytes. No clause says what they hold.
 #[derive(Drop)]
 pub struct MemoryArea {
     alloc: Global,
-    intervals: Vec<Bytes>,
+    intervals: Vec<Interval>,
+
+    /// The last one whose bytes are none.
+    bad: Option<u64>,
     gets: u64,
     puts: u64,
 
@@ -29,6 +30,7 @@ impl MemoryArea {
         MemoryArea {
             alloc,
             intervals: Vec::new(alloc),
+            bad: None,
             gets: 0,
             puts: 0,
             left: u64::MAX,
@@ -38,19 +40,27 @@ impl MemoryArea {
 
     /// Adds an interval.
     pub fn add(&mut self, interval: Interval) -> Result<(), AllocError> {
-        self.add_bytes(interval.into_bytes())
+        self.intervals.push(interval)?;
+        Ok(())
     }
 
     /// Adds an empty interval of a kind.
-    pub fn add_empty(&mut self, kind: u8) -> Result<(), AllocError>
+    pub fn add_empty(&mut self, kind: u8) -> Result<(), Memory>
         requires { IsTrue (is_kind kind) }
     {
-        self.add(Interval::empty(self.alloc, 512, kind)?)
+        self.add(Interval::empty(self.alloc, 512, kind)?)?;
+        Ok(())
     }
 
     /// Adds bytes that may be an interval.
-    pub fn add_bytes(&mut self, bytes: Vec<u8>) -> Result<(), AllocError> {
-        self.intervals.push(Bytes::from_vec(bytes))?;
+    pub fn add_bytes(&mut self, bytes: &[u8]) -> Result<(), Memory> {
+        match Interval::read(self.alloc, bytes)? {
+            Some(interval) => self.add(interval)?,
+            None => {
+                self.bad = Some(self.intervals.len() as u64);
+                self.add_empty(5)?;
+            }
+        }
         Ok(())
     }
 
@@ -72,51 +82,43 @@ impl MemoryArea {
         )
     }
 
-    /// An interval, where there is one. This isn't counted.
-    pub fn interval(&self, ci: u64) -> Result<Interval, GetFault>
-        ensures interval { IfOk result IsInterval }
-        ensures size { IfOk result (λ interval. length interval ≡ 512) }
-        ensures fault { IfErr result (λ fault. IsReadFault ci fault) }
-    {
-        if ci >= self.intervals.len() as u64 {
-            return Err(GetFault::BadTiles(ci));
+    /// An interval, if there is one. This isn't counted.
+    pub fn interval(&self, ci: u64) -> Option<&Interval> {
+        if ci < self.intervals.len() as u64 {
+            return Some(&self.intervals[ci as usize]);
         }
-        let read = Interval::read(self.alloc, self.intervals[ci as usize].as_slice());
-        let Ok(found) = read else {
-            return Err(GetFault::Memory);
-        };
-        match found {
-            Some(interval) => whole(interval, ci),
-            None => Err(GetFault::BadTiles(ci)),
-        }
+        None
     }
 
     /// The head of an interval, if there is one.
     pub fn head_at(&self, ci: u64) -> Option<Head> {
         match self.interval(ci) {
-            Ok(interval) => Some(interval.head()),
-            Err(_) => None,
+            Some(interval) => Some(interval.head()),
+            None => None,
         }
     }
 
     /// Whether an element of an interval is used at a place.
     pub fn is_used(&self, ci: u64, at: u16) -> bool {
         match self.interval(ci) {
-            Ok(interval) => interval.is_used(at),
-            Err(_) => false,
+            Some(interval) => interval.is_used(at),
+            None => false,
         }
     }
 
     /// Whether an interval has these bytes from a place on.
-    pub fn has_bytes(&self, ci: usize, at: usize, bytes: &[u8]) -> bool {
-        ci < self.intervals.len() && stand_at(self.intervals[ci].as_slice(), at, bytes)
+    pub fn has_bytes(&self, ci: u64, at: usize, bytes: &[u8]) -> bool {
+        match self.interval(ci) {
+            Some(interval) => stand_at(interval.whole(), at, bytes),
+            None => false,
+        }
     }
 
     /// The bytes of all intervals, one behind the other.
     pub fn bytes(&self) -> Result<Vec<u8>, AllocError> {
         let mut bytes = Vec::new(self.alloc);
         for interval in &self.intervals {
-            bytes.extend_from_slice(interval.as_slice())?;
+            bytes.extend_from_slice(interval.whole())?;
         }
         Ok(bytes)
     }
@@ -126,20 +128,6 @@ impl MemoryArea {
 pub fn stand_at(all: &[u8], at: usize, bytes: &[u8]) -> bool {
     let mut there = all.iter().skip(at);
     bytes.iter().all(|byte| there.next() == Some(byte))
-}
-
-/// An interval, if it has 512 bytes.
-fn whole(interval: Interval, ci: u64) -> Result<Interval, GetFault>
-    requires { IsInterval interval }
-    ensures interval { IfOk result IsInterval }
-    ensures size { IfOk result (λ interval. length interval ≡ 512) }
-    ensures fault { IfErr result (λ fault. IsReadFault ci fault) }
-{
-    if interval.size() == 512 {
-        Ok(interval)
-    } else {
-        Err(GetFault::BadTiles(ci))
-    }
 }
 
 impl Intervals for MemoryArea {
@@ -174,11 +162,15 @@ impl Intervals for MemoryArea {
         }
         self.left -= 1;
         self.gets = self.gets.saturating_add(1);
-        self.interval(ci)
+        match self.intervals[ci as usize].copied(self.alloc) {
+            Ok(interval) if interval.size() == 512 && self.bad != Some(ci) => Ok(interval),
+            Ok(_) => Err(GetFault::BadTiles(ci)),
+            Err(_) => Err(GetFault::Memory),
+        }
     }
 
     fn put(&mut self, ci: u64, i: Interval) -> Result<(), Memory> {
-        self.intervals[ci as usize] = Bytes::from_vec(i.into_bytes());
+        self.intervals[ci as usize] = i;
         self.puts = self.puts.saturating_add(1);
         Ok(())
     }
@@ -191,7 +183,7 @@ impl Intervals for MemoryArea {
         let Ok(interval) = Interval::empty(self.alloc, 512, 5) else {
             return Err(GetFault::Memory);
         };
-        match self.intervals.push(Bytes::from_vec(interval.into_bytes())) {
+        match self.intervals.push(interval) {
             Ok(()) => Ok(number),
             Err(_) => Err(GetFault::Memory),
         }
@@ -233,9 +225,9 @@ pub fn formatted(
     let mut area = MemoryArea::new(rt.alloc());
     area.add(control(rt.alloc(), ends)?)?;
     for _ in 0..uows {
-        for kind in [2u8, 2, 3] {
-            area.add_empty(kind)?;
-        }
+        area.add_empty(2)?;
+        area.add_empty(2)?;
+        area.add_empty(3)?;
     }
     for _ in 0..seq_cis {
         area.add_empty(4)?;

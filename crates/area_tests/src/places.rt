@@ -91,26 +91,42 @@ fn sets(
     }
 }
 
+/// An area with three clients, or none where a call fails.
+fn stored(rt: &HostRuntime) -> Result<Option<MemoryArea>, Fail> {
+    let types = client_types(rt.alloc())?;
+    let mut area = formatted(rt, [1, 1, 0, 0], 2, 1)?;
+    let roots = clients(rt.alloc(), 6)?;
+    if store(rt.alloc(), &mut area, &shape(2, 1), &types, 0, &roots).is_err() {
+        return Ok(None);
+    }
+    Ok(Some(area))
+}
+
+/// Whether the second client alone has another newest serial.
+fn is_set(alloc: Global, area: &mut MemoryArea) -> Result<bool, AllocError> {
+    let types = client_types(alloc)?;
+    let roots = clients(alloc, 77)?;
+    Ok(has_roots(alloc, area, &shape(2, 1), &types, 0, &roots))
+}
+
 #[test]
 fn a_newest_serial_is_told_and_set(rt: HostRuntime) -> Result<(), Fail> {
-    let alloc = rt.alloc();
-    let types = client_types(alloc)?;
-    let mut area = formatted(&rt, [1, 1, 0, 0], 2, 1)?;
-    let roots = clients(alloc, 6)?;
-    assert!(rt; store(alloc, &mut area, &shape(2, 1), &types, 0, &roots).is_ok());
+    let Some(mut area) = stored(&rt)? else {
+        assert!(rt; false);
+        return Ok(());
+    };
     for (number, at, newest) in &PLACES {
         assert!(rt;
-            is_placed(alloc, &mut area, *number, *at, *newest)?,
+            is_placed(rt.alloc(), &mut area, *number, *at, *newest)?,
             "{number}"
         );
     }
     for (number, newest, there) in &SETS {
         assert!(rt;
-            sets(alloc, &mut area, *number, *newest, *there)?,
+            sets(rt.alloc(), &mut area, *number, *newest, *there)?,
             "{number}"
         );
     }
-    let roots = clients(alloc, 77)?;
-    assert!(rt; has_roots(alloc, &mut area, &shape(2, 1), &types, 0, &roots));
+    assert!(rt; is_set(rt.alloc(), &mut area)?);
     Ok(())
 }

@@ -1,11 +1,16 @@
 //! Roots that are stored whole, changed in place and with one segment more; and which interval is named where the overflow
 //! list of a unit of work is broken.
-ghost use Rattle.std.specs.Prelude.{◌<◌};
+ghost use Rattle.std.specs.Prelude.{◌≡◌, ◌<◌, List as ListOf, true};
+ghost use Rattle.fp_model.specs.declared.definitions.SegDef.{SegDef as SegDefOf};
+ghost use Rattle.area_tests.specs.Types.{AreFamilyTypes};
+ghost use Rattle.root_anchor.specs.Chains.{anchor_count};
+ghost use Rattle.root_anchor.specs.Stored.{are_storable};
 
 use crate::families::{Keys, NO_KEYS, NONE, Parent, Row, of_row, roots};
 use crate::memory::{MemoryArea, formatted, shape};
 use crate::types::{family_types, has_roots};
-use ci_space::{Head, Intervals};
+use ci_space::{Head, Intervals, Shape};
+use fp_model::{List, Root};
 use root_anchor::{AnchorFault, rewrite, store};
 use std::alloc::Global;
 use std::test::Fail;
@@ -81,14 +86,21 @@ fn parents(rows: &[Row; 3]) -> [Parent; 3] {
     [of_row(rows[0]), of_row(rows[1]), of_row(rows[2])]
 }
 
+/// Whether an anchor has just these parents.
+fn has(alloc: Global, area: &mut MemoryArea, anchor: u32, list: &[Parent]) -> Result<bool, Fail>
+    requires { anchor < 4 }
+{
+    let types = family_types(alloc)?;
+    let roots = roots(alloc, list, NOBODY)?;
+    Ok(has_roots(alloc, area, &shape(2, 1), &types, anchor, &roots))
+}
+
 /// Whether an anchor has the parents of a step.
 fn has_step(alloc: Global, area: &mut MemoryArea, number: usize) -> Result<bool, Fail> {
-    let types = family_types(alloc)?;
     if number >= STEPS.len() || STEPS[number].0 >= 4 {
         return Ok(false);
     }
-    let roots = roots(alloc, &parents(&STEPS[number].1), NOBODY)?;
-    Ok(has_roots(alloc, area, &shape(2, 1), &types, STEPS[number].0, &roots))
+    has(alloc, area, STEPS[number].0, &parents(&STEPS[number].1))
 }
 
 /// Stores parents at an anchor. Whether the call succeeds.
@@ -122,28 +134,55 @@ static COUNTS: [(Row, (u64, u64)); 2] = [
     ((1, b'A', &[5, 1], 15), (2, 2)),
 ];
 
+/// How often intervals are got and put when a parent is stored in a new area, and got when it is read again. None where a call
+/// fails.
+fn calls_of_one(rt: &HostRuntime, one: Row) -> Result<Option<((u64, u64), u64)>, Fail> {
+    let mut area = area(rt, 1)?;
+    let list = [of_row(one)];
+    if !stores(rt.alloc(), &mut area, 0, &list)? {
+        return Ok(None);
+    }
+    let calls = area.calls();
+    if !has(rt.alloc(), &mut area, 0, &list)? {
+        return Ok(None);
+    }
+    Ok(Some((calls, area.calls_since(calls).0)))
+}
+
 /// When it is read again they are got as often as when it was stored.
 #[test]
 fn an_interval_is_got_and_put_once(rt: HostRuntime) -> Result<(), Fail> {
-    let types = family_types(rt.alloc())?;
     for (number, (row, calls)) in COUNTS.iter().enumerate() {
-        let mut area = area(&rt, 1)?;
-        let list = [of_row(*row)];
-        assert!(rt;
-            stores(rt.alloc(), &mut area, 0, &list)? && area.calls() == *calls,
-            "{number}"
-        );
-        let roots = roots(rt.alloc(), &list, NOBODY)?;
-        assert!(rt; has_roots(rt.alloc(), &mut area, &shape(2, 1), &types, 0, &roots));
-        assert!(rt; area.calls_since(*calls) == (calls.0, 0), "{number}");
+        let found = calls_of_one(&rt, *row)?;
+        assert!(rt; found == Some((*calls, calls.0)), "row {number}");
     }
     Ok(())
 }
 
 // ---- changes in place, and one segment more
 
-/// How many intervals are got and put when parents, of whom some are missing, become others. None where these aren't read
-/// back.
+/// How many intervals are got and put when roots become others. None where these aren't read back.
+fn calls_between(
+    alloc: Global,
+    area: &mut MemoryArea,
+    shape: &Shape,
+    before: &List<Root>,
+    after: &List<Root>,
+) -> Result<Option<(u64, u64)>, Fail>
+    requires some { 0 < anchor_count shape.now }
+    requires after { (types : ListOf SegDefOf) → AreFamilyTypes types → are_storable types after.now ≡ true }
+{
+    let types = family_types(alloc)?;
+    let stood = area.calls();
+    let changed = rewrite(alloc, area, shape, &types, 0, before, after);
+    let calls = area.calls_since(stood);
+    if changed.is_ok() && has_roots(alloc, area, shape, &types, 0, after) {
+        return Ok(Some(calls));
+    }
+    Ok(None)
+}
+
+/// The same for parents, of whom some are missing before.
 fn calls_of(
     rt: &HostRuntime,
     seq_cis: u32,
@@ -151,23 +190,15 @@ fn calls_of(
     gone: (u8, u8),
     after: &[Parent],
 ) -> Result<Option<(u64, u64)>, Fail> {
-    let alloc = rt.alloc();
-    let types = family_types(alloc)?;
+    let types = family_types(rt.alloc())?;
     let mut area = area(rt, seq_cis)?;
-    let before = roots(alloc, before, gone)?;
-    let after = roots(alloc, after, NOBODY)?;
     let shape = shape(2, seq_cis);
-    let stored = store(alloc, &mut area, &shape, &types, 0, &before);
-    let stood = area.calls();
-    let changed = rewrite(alloc, &mut area, &shape, &types, 0, &before, &after);
-    let calls = area.calls_since(stood);
-    if stored.is_err() || changed.is_err() {
+    let before = roots(rt.alloc(), before, gone)?;
+    let after = roots(rt.alloc(), after, NOBODY)?;
+    if store(rt.alloc(), &mut area, &shape, &types, 0, &before).is_err() {
         return Ok(None);
     }
-    if has_roots(alloc, &mut area, &shape, &types, 0, &after) {
-        return Ok(Some(calls));
-    }
-    Ok(None)
+    calls_between(rt.alloc(), &mut area, &shape, &before, &after)
 }
 
 /// Three parents with two loans of two payments and two addresses, of whom the first says this, and of the first and the
@@ -297,18 +328,30 @@ fn plain(rt: &HostRuntime, last: u8) -> Result<Vec<Parent>, Fail> {
     Ok(list)
 }
 
-/// What storing one parent more answers where the last interval of the list holds a bad link and these parents go.
-fn named(rt: &HostRuntime, gone: (u8, u8)) -> Result<Option<AnchorFault>, Fail> {
-    let alloc = rt.alloc();
-    let types = family_types(alloc)?;
+/// Stores plain parents at the first anchor of an area without a sequential part.
+fn store_plain(
+    rt: &HostRuntime,
+    area: &mut MemoryArea,
+    last: u8,
+    gone: (u8, u8),
+) -> Result<Result<(), AnchorFault>, Fail> {
+    let types = family_types(rt.alloc())?;
+    let list = plain(rt, last)?;
+    let roots = roots(rt.alloc(), &list, gone)?;
+    Ok(store(rt.alloc(), area, &shape(2, 0), &types, 0, &roots))
+}
+
+/// Whether storing one parent more names this interval, where the last interval of the list holds a bad link and these
+/// parents go.
+fn is_named(rt: &HostRuntime, gone: (u8, u8), ci: u64) -> Result<bool, Fail> {
     let mut area = area(rt, 0)?;
-    let before = roots(alloc, &plain(rt, 60)?, NOBODY)?;
-    let after = roots(alloc, &plain(rt, 61)?, gone)?;
-    let stored = store(alloc, &mut area, &shape(2, 0), &types, 0, &before);
-    if stored.is_err() || !break_link(&mut area, 7) {
-        return Ok(None);
+    if store_plain(rt, &mut area, 60, NOBODY)?.is_err() || !break_link(&mut area, 7) {
+        return Ok(false);
     }
-    Ok(store(alloc, &mut area, &shape(2, 0), &types, 0, &after).err())
+    match store_plain(rt, &mut area, 61, gone)? {
+        Err(AnchorFault::Damaged(found)) => Ok(found == ci),
+        _ => Ok(false),
+    }
 }
 
 /// The parents that go, and the interval that is named.
@@ -322,8 +365,7 @@ static NAMED: [((u8, u8), u64); 4] = [(NOBODY, 7), ((10, 20), 7), ((20, 30), 7),
 #[test]
 fn the_interval_that_holds_the_bad_link_by_then_is_named(rt: HostRuntime) -> Result<(), Fail> {
     for (row, (gone, ci)) in NAMED.iter().enumerate() {
-        let found = named(&rt, *gone)?;
-        assert!(rt; found == Some(AnchorFault::Damaged(*ci)), "row {row}");
+        assert!(rt; is_named(&rt, *gone, *ci)?, "row {row}");
     }
     Ok(())
 }

@@ -103,7 +103,7 @@ fn are_chained(area: &MemoryArea, roots: &[Customer]) -> bool {
     let mut at: u16 = 32;
     let mut ci: u64 = 4;
     for customer in roots.iter().rev() {
-        if !area.has_bytes(ci as usize, usize::from(at), &element(customer, next)) {
+        if !area.has_bytes(ci, usize::from(at), &element(customer, next)) {
             return false;
         }
         next = (ci, at);
@@ -118,7 +118,7 @@ fn are_chained(area: &MemoryArea, roots: &[Customer]) -> bool {
 }
 
 /// Intervals, places, and what stands there.
-type Standing = (usize, usize, &'static [u8]);
+type Standing = (u64, usize, &'static [u8]);
 
 /// What stands when 21 roots do.
 static FULL: [Standing; 4] = [
@@ -266,8 +266,8 @@ fn changed_elements(old: &MemoryArea, new: &MemoryArea) -> Option<u32> {
     let mut changed: u32 = 0;
     for ci in 0..old.count() {
         match (old.interval(ci), new.interval(ci)) {
-            (Ok(before), Ok(after)) => {
-                changed = changed.saturating_add(changed_within(&before, &after));
+            (Some(before), Some(after)) => {
+                changed = changed.saturating_add(changed_within(before, after));
             }
             _ => return None,
         }
@@ -352,13 +352,16 @@ fn elements_say_their_segments(rt: HostRuntime) -> Result<(), Fail> {
     Ok(())
 }
 
+/// How often an interval is put when it is stored, and when it is again.
+static PUTS: [u64; 2] = [1, 0];
+
 #[test]
 fn the_same_again_is_not_written(rt: HostRuntime) -> Result<(), Fail> {
     let mut area = area(&rt, 1)?;
-    for puts in [1, 0u64] {
+    for puts in &PUTS {
         let before = area.calls();
         assert!(rt; put(&rt, &mut area, 1, 1, &LENDER)?);
-        assert!(rt; area.calls_since(before).1 == puts, "{puts}");
+        assert!(rt; area.calls_since(before).1 == *puts, "{puts}");
     }
     Ok(())
 }
