@@ -25,7 +25,7 @@ use Rattle.dedb_area.specs.Applying.{IsFitImage, IsFitInterval}
 use Rattle.area_states.specs.States.{newest_serial}
 use Rattle.dedb_area.specs.Committing.{MayStage}
 use Rattle.area_tests.specs.Types.{AreCustomerTypes}
-use Rattle.area_tests.specs.Bank.{FitsBank, HasArea, HasBank, HasCustomers, IsBank, IsBankArea, IsBankDedb, IsNote, KeepsNotes}
+use Rattle.area_tests.specs.Bank.{FitsBank, HasArea, HasBank, HasCustomers, IsBank, IsBankArea, IsBankDedb, IsLonePlace, IsNote, KeepsNotes}
 
 -- ---- what may be staged
 
@@ -42,16 +42,24 @@ customer_storable types are root long none =
     let list = newest_fits types (newest_serial root.seqs) are.serials in
     rw (bytes, are.below_root, none, list) refl
 
-pub storable : (place : Place) → AreCustomerTypes place.segments → (changes : List AnchorChange)
+storable : (place : Place) → AreCustomerTypes place.segments → (changes : List AnchorChange)
     → AllByRecursion HasCustomers changes → AllByRecursion (IsStorable place) changes
 storable place are [] all = tt
 storable place are (c ∷ cs) all = (λ _. all.0 place.segments are, storable place are cs all.1)
 
-pub insertable : (place : Place) → IsBankArea place → (inserts : List SeqInsert) → AllByRecursion IsNote inserts
+insertable : (place : Place) → IsBankArea place → (inserts : List SeqInsert) → AllByRecursion IsNote inserts
     → AllByRecursion (IsInsertable place) inserts
 insertable place area [] all = tt
 insertable place area (i ∷ is) all =
     (λ _. (area.some, all.0 ∙ sym area.customers.notes), insertable place area is all.1)
+
+pub lone_storable : (place : Place) → IsLonePlace place → (changes : List AnchorChange)
+    → AllByRecursion HasCustomers changes → AllByRecursion (IsStorable place) changes
+lone_storable place lone changes all = storable place lone.area.customers changes all
+
+pub lone_insertable : (place : Place) → IsLonePlace place → (inserts : List SeqInsert)
+    → AllByRecursion IsNote inserts → AllByRecursion (IsInsertable place) inserts
+lone_insertable place lone inserts all = insertable place lone.area inserts all
 
 pub may_stage : (defs : Defs) (changes : List AnchorChange) (inserts : List SeqInsert) → IsBank defs
     → AllByRecursion HasCustomers changes → AllByRecursion IsNote inserts → MayStage (places_of defs) changes inserts

@@ -2,7 +2,7 @@
 use Rattle.std.proofs.Common.{◌≡◌, ℕ, ◌<◌, ◌≤◌, ◌*◌, ◌-◌, ◌/◌, ◌+◌, List, [], ◌∷◌, length, All, refl, sym, ◌∙◌, arith}
 use Rattle.anchor_elements.specs.Elements.{AreTypes}
 use Rattle.area_states.specs.declared.place.Place.{Place}
-use Rattle.area_states.specs.Places.{IsPlace}
+use Rattle.area_states.specs.Places.{IsPlace, sequential_length}
 use Rattle.ci_space.specs.declared.intervals.Shape.{Shape}
 use Rattle.seq_dependents.specs.Puts.{segment_size}
 use Rattle.seq_dependents.specs.Slots.{HoldsCapacity, slots_each, part_of}
@@ -14,10 +14,10 @@ twenty : (ci n segment capacity : ℕ) → ci ≡ 512 → segment ≡ 8 → capa
     → capacity ≤ n * ((ci - 32) / (16 + segment))
 twenty ci n segment capacity c s fit = rw (c, s) fit
 
-fits : (part : Part) → part.shape.ci ≡ 512 → part.segment ≡ 8 → 0 < part.capacity
+holds_part : (part : Part) → part.shape.ci ≡ 512 → part.segment ≡ 8 → 0 < part.capacity
     → part.capacity ≤ part.shape.seq_cis * 20 → HoldsCapacity part
 unfolding slots_each
-fits part c s some fit = record {
+holds_part part c s some fit = record {
   some = some;
   fits = twenty part.shape.ci part.shape.seq_cis part.segment part.capacity c s fit;
 }
@@ -26,7 +26,7 @@ fits part c s some fit = record {
 
 pub holds : (shape : Shape) (segment : ℕ) → shape.ci ≡ 512 → shape.seq_cis ≡ 5 → segment ≡ 8
     → HoldsCapacity (part_of shape 100 segment)
-holds shape segment c n s = fits (part_of shape 100 segment) c s (omega arith) (omega (arith, n))
+holds shape segment c n s = holds_part (part_of shape 100 segment) c s (omega arith) (omega (arith, n))
 
 first_size : (items : List (List ℕ)) → 0 < length items → All (λ item. length item ≡ 8) items → segment_size items ≡ 8
 first_size [] l a = absurd (omega arith)
@@ -54,9 +54,11 @@ is_lone_place place c u b n k types customers =
         base = omega (arith, b);
         types = rw c types;
         sequential = λ _. customers.serials;
-        slots = λ _. fits (record { shape = place.shape; capacity = place.capacity; segment = _ }) c customers.notes some fit;
+        slots = λ _. holds_part (record { shape = place.shape; capacity = place.capacity; segment = sequential_length place.segments }) c customers.notes some fit;
       };
       area = record { customers = customers; some = some; size = c };
+      size = sym c;
+      types = types;
       anchors = rw (u, b) refl;
-      slots = fits (record { shape = place.shape; capacity = place.capacity; segment = 8 }) c refl some fit;
+      slots = holds_part (record { shape = place.shape; capacity = place.capacity; segment = 8 }) c refl some fit;
     }

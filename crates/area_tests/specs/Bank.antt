@@ -10,6 +10,7 @@ use Rattle.fp_model.specs.declared.definitions.SegDef.{SegDef}
 use Rattle.fp_model.specs.declared.log.Item.{Item}
 use Rattle.fp_model.specs.declared.log.Item.TheVariants.{Segment, Image, Range}
 use Rattle.fp_model.specs.WellFormed.{AreDefs}
+use Rattle.anchor_elements.specs.Elements.{AreTypes}
 use Rattle.root_anchor.specs.Stored.{are_storable}
 use Rattle.area_states.specs.declared.place.Place.{Place}
 use Rattle.area_states.specs.Changes.{kept_root}
@@ -38,6 +39,8 @@ pub record IsBankArea (place : Place) : Type 0 where
 pub record IsLonePlace (place : Place) : Type 0 where
   pub is_place : IsPlace place
   pub area : IsBankArea place
+  pub size : 512 ≡ place.shape.ci
+  pub types : AreTypes 512 place.segments
   pub anchors : anchor_count place.shape ≡ 2
   pub slots : HoldsCapacity (part_of place.shape place.capacity 8)
 

@@ -17,7 +17,6 @@ use std::alloc::{AllocError, Global};
 use std::test::Fail;
 
 /// One thing that is done or looked at.
-#[derive(Clone, Copy)]
 pub(crate) enum Step {
     /// A commit of these changes, and what comes of it.
     Commit(&'static [Change], Came),
@@ -48,7 +47,6 @@ pub(crate) enum Step {
 }
 
 /// What comes of staging.
-#[derive(Clone, Copy)]
 pub(crate) enum Came {
     /// Items, whatever they are.
     Some,
@@ -59,7 +57,6 @@ pub(crate) enum Came {
 }
 
 /// An item: its data set and interval, and of a range its place and bytes.
-#[derive(Clone, Copy)]
 pub(crate) enum Named {
     Image(u16, u64),
     Range(u16, u64, u16, &'static [u8]),

@@ -19,7 +19,6 @@ pub(crate) const KEY: usize = 4;
 const NOTE: usize = 8;
 
 /// One change: its anchor in the database and its customer's key come first.
-#[derive(Clone, Copy)]
 pub(crate) enum Change {
     /// A new customer, of this name.
     Add(u32, &'static [u8], &'static [u8]),
