@@ -1,1 +1,2 @@
-pub mod Samples
+pub mod Bank
+pub mod Types

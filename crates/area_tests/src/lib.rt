@@ -1,13 +1,49 @@
-//! Tests of areas: roots of an anchor.
+//! Tests of what stands under areas: intervals and the room in them, anchors, sequential parts, states, the pool, and areas
+//! over sites from one commit to the next.
 //!
-//! They stand here and not in the crates that they test, since a crate with tests is proved twice.
+//! They stand here and not in the crates that they test, since a crate with tests is proved twice. Which bytes are an
+//! interval is data of a program above.
 #![tactic(auto)]
 
 #[cfg(test)]
-mod hand_written;
+mod bank;
 #[cfg(test)]
-mod reading;
+mod bench;
 #[cfg(test)]
-mod samples;
+mod books;
 #[cfg(test)]
-mod stores;
+mod changes;
+#[cfg(test)]
+mod commits;
+#[cfg(test)]
+mod customers;
+#[cfg(test)]
+mod definitions;
+#[cfg(test)]
+mod families;
+#[cfg(test)]
+mod intervals;
+#[cfg(test)]
+mod loading;
+#[cfg(test)]
+mod logging;
+#[cfg(test)]
+mod memory;
+#[cfg(test)]
+mod overflow;
+#[cfg(test)]
+mod places;
+#[cfg(test)]
+mod pool;
+#[cfg(test)]
+mod rewriting;
+#[cfg(test)]
+mod sequential;
+#[cfg(test)]
+mod states;
+#[cfg(test)]
+mod stops;
+#[cfg(test)]
+mod storing;
+#[cfg(test)]
+mod types;
