@@ -8,6 +8,7 @@ ghost use Rattle.msdb_store.specs.Store.{IsOf};
 ghost use Rattle.std.specs.List.{AllByRecursion};
 ghost use Rattle.std.specs.Prelude.{◌≡◌, ◌<◌, ◌^◌, ◌∷◌, [], IfOk, IfSome, List as ListOf, length};
 
+use self::Action::{Add, Delete, Insert, Replace, Set, Verify};
 use crate::accounts::{defs, delete, field_call, insert};
 use fp_model::{Bytes, Deferred, List};
 use msdb_store::{MsdbStore, VerifyFault};
@@ -15,7 +16,7 @@ use std::alloc::{AllocError, Global};
 use std::test::Fail;
 
 // The keys that the calls are about, ascending.
-const KEYS: [[u8; 4]; 12] = [
+static KEYS: [[u8; 4]; 12] = [
     *b"\x00\x00\x00\x00",
     *b"\x00\x00\x00\x01",
     *b"\x00\x01\x00\x00",
@@ -63,20 +64,16 @@ pub(crate) enum Action {
 
 /// A call: what it does to the account of a key, with which amount.
 #[derive(Clone, Copy)]
-pub(crate) struct Step {
-    pub(crate) action: Action,
-    pub(crate) key: [u8; 4],
-    pub(crate) amount: u32,
-}
+pub(crate) struct Step(pub(crate) Action, pub(crate) [u8; 4], pub(crate) u32);
 
 impl Random {
     fn action(&mut self) -> Action {
         match self.below(6) {
-            0 => Action::Insert,
-            1 => Action::Replace,
-            2 => Action::Delete,
-            3 => Action::Set,
-            _ => Action::Add,
+            0 => Insert,
+            1 => Replace,
+            2 => Delete,
+            3 => Set,
+            _ => Add,
         }
     }
 
@@ -84,11 +81,7 @@ impl Random {
         let action = self.action();
         let key = KEYS[self.below(12) as usize];
         let amount = self.below(10_000) * 1_000 + self.below(1_000);
-        Step {
-            action,
-            key,
-            amount,
-        }
+        Step(action, key, amount)
     }
 
     // A second call, every other time.
@@ -152,13 +145,14 @@ fn call(alloc: Global, step: Step) -> Result<Deferred, AllocError>
     ensures { (defs : ListOf DefOf) → (def : DefOf) → defs ≡ def ∷ [] → def.length ≡ 8
         → key_length def.fields ≡ 4 → IfOk result (IsFitDeferred defs) }
 {
-    match step.action {
-        Action::Insert => insert(alloc, segment(step.key, step.amount)),
-        Action::Replace => replace(alloc, segment(step.key, step.amount)),
-        Action::Delete => delete(alloc, step.key),
-        Action::Set => field_call(alloc, step.key, b'=', &operand(step.amount)),
-        Action::Add => field_call(alloc, step.key, b'+', &operand(step.amount)),
-        Action::Verify => field_call(alloc, step.key, b'H', &operand(step.amount)),
+    let Step(action, key, amount) = step;
+    match action {
+        Insert => insert(alloc, segment(key, amount)),
+        Replace => replace(alloc, segment(key, amount)),
+        Delete => delete(alloc, key),
+        Set => field_call(alloc, key, b'=', &operand(amount)),
+        Add => field_call(alloc, key, b'+', &operand(amount)),
+        Verify => field_call(alloc, key, b'H', &operand(amount)),
     }
 }
 
@@ -243,13 +237,14 @@ fn change(
     step: Step,
     call: u32,
 ) -> Result<(), VerifyFault> {
-    let Some(at) = place(accounts, step.key) else {
+    let Step(action, key, amount) = step;
+    let Some(at) = place(accounts, key) else {
         return Err(failure(alloc, call, 65_535, b""));
     };
     let held = accounts[at].amount;
-    let amount = match step.action {
-        Action::Add => u64::from(held) + u64::from(step.amount),
-        _ => u64::from(step.amount),
+    let amount = match action {
+        Add => u64::from(held) + u64::from(amount),
+        _ => u64::from(amount),
     };
     if amount > u64::from(MOST) {
         return Err(failure(alloc, call, 0, &packed(held)));
@@ -265,15 +260,11 @@ fn make(
     step: Step,
     call: u32,
 ) -> Result<(), VerifyFault> {
-    let Step {
-        action: _,
-        key,
-        amount,
-    } = step;
-    match step.action {
-        Action::Insert | Action::Replace => put(accounts, Account { key, amount })?,
-        Action::Delete => close(accounts, key),
-        Action::Set | Action::Add | Action::Verify => change(alloc, accounts, step, call)?,
+    let Step(action, key, amount) = step;
+    match action {
+        Insert | Replace => put(accounts, Account { key, amount })?,
+        Delete => close(accounts, key),
+        Set | Add | Verify => change(alloc, accounts, step, call)?,
     }
     Ok(())
 }
@@ -396,8 +387,7 @@ fn mixed_calls_meet_a_plain_list(rt: HostRuntime) -> Result<(), Fail> {
 // A queue of two calls, how many items it has or which call fails with which bytes found, and all segments behind it.
 #[derive(Clone, Copy)]
 struct Row {
-    first: Step,
-    second: Step,
+    calls: [Step; 2],
     wanted: Result<usize, (u32, u16, &'static [u8])>,
     segments: &'static [u8],
 }
@@ -410,72 +400,27 @@ pub(crate) const C: [u8; 4] = *b"C003";
 
 static ROWS: [Row; 5] = [
     Row {
-        first: Step {
-            action: Action::Insert,
-            key: A,
-            amount: 100,
-        },
-        second: Step {
-            action: Action::Add,
-            key: A,
-            amount: 10,
-        },
+        calls: [Step(Insert, A, 100), Step(Add, A, 10)],
         wanted: Ok(1),
         segments: b"A001\x00\x00\x11\x0c",
     },
     Row {
-        first: Step {
-            action: Action::Insert,
-            key: B,
-            amount: 0,
-        },
-        second: Step {
-            action: Action::Delete,
-            key: B,
-            amount: 0,
-        },
+        calls: [Step(Insert, B, 0), Step(Delete, B, 0)],
         wanted: Ok(1),
         segments: b"A001\x00\x00\x11\x0c",
     },
     Row {
-        first: Step {
-            action: Action::Add,
-            key: C,
-            amount: 1,
-        },
-        second: Step {
-            action: Action::Insert,
-            key: C,
-            amount: 100,
-        },
+        calls: [Step(Add, C, 1), Step(Insert, C, 100)],
         wanted: Err((0, 65_535, b"")),
         segments: b"A001\x00\x00\x11\x0c",
     },
     Row {
-        first: Step {
-            action: Action::Insert,
-            key: C,
-            amount: 100,
-        },
-        second: Step {
-            action: Action::Verify,
-            key: C,
-            amount: 101,
-        },
+        calls: [Step(Insert, C, 100), Step(Verify, C, 101)],
         wanted: Err((1, 0, b"\x00\x00\x10\x0c")),
         segments: b"A001\x00\x00\x11\x0c",
     },
     Row {
-        first: Step {
-            action: Action::Insert,
-            key: C,
-            amount: MOST,
-        },
-        second: Step {
-            action: Action::Add,
-            key: C,
-            amount: 1,
-        },
+        calls: [Step(Insert, C, MOST), Step(Add, C, 1)],
         wanted: Err((1, 0, b"\x99\x99\x99\x9c")),
         segments: b"A001\x00\x00\x11\x0c",
     },
@@ -507,7 +452,7 @@ fn goes(alloc: Global, store: &mut MsdbStore, row: Row) -> Result<bool, VerifyFa
     ensures { (defs : ListOf DefOf) → (def : DefOf) → defs ≡ def ∷ [] → IsMsdbDef def → def.length ≡ 8
         → key_length def.fields ≡ 4 → IsOf defs store.old → IsOf defs store.new }
 {
-    let found = settled(alloc, store, row.first, Some(row.second))?;
+    let found = settled(alloc, store, row.calls[0], Some(row.calls[1]))?;
     let segments = segments(alloc, store)?;
     Ok(found == told(outcome(alloc, row))? && segments.as_slice() == row.segments)
 }

@@ -10,7 +10,8 @@ ghost use Rattle.std.specs.List.{AllByRecursion};
 ghost use Rattle.std.specs.Prelude.{◌≡◌, ◌<◌, ◌^◌, ◌∷◌, [], IfOk, List as ListOf, length};
 
 use crate::accounts::{defs, field_call, insert};
-use crate::queues::{A, Action, B, C, Step, queue, segments};
+use crate::queues::Action::{Add, Insert, Verify};
+use crate::queues::{A, B, C, Step, queue, segments};
 use fp_model::{Bytes, Deferred, Entry, List, Outcome, Resource};
 use fp_site::MemorySite;
 use log_groups::{Front, Log, LogFault};
@@ -46,8 +47,7 @@ fn empty_log(alloc: Global) -> Result<Log, LogFault> {
 // entries the log has, and all segments.
 #[derive(Clone, Copy)]
 struct Row {
-    first: Step,
-    second: Step,
+    calls: [Step; 2],
     wanted: Result<usize, (u32, u16, &'static [u8])>,
     entries: u64,
     segments: &'static [u8],
@@ -58,61 +58,25 @@ const ROOM: u64 = 500;
 
 static ROWS: [Row; 4] = [
     Row {
-        first: Step {
-            action: Action::Insert,
-            key: A,
-            amount: 100,
-        },
-        second: Step {
-            action: Action::Add,
-            key: A,
-            amount: 10,
-        },
+        calls: [Step(Insert, A, 100), Step(Add, A, 10)],
         wanted: Ok(1),
         entries: 1,
         segments: b"A001\x00\x00\x11\x0c",
     },
     Row {
-        first: Step {
-            action: Action::Verify,
-            key: A,
-            amount: 110,
-        },
-        second: Step {
-            action: Action::Add,
-            key: A,
-            amount: 20,
-        },
+        calls: [Step(Verify, A, 110), Step(Add, A, 20)],
         wanted: Ok(1),
         entries: 2,
         segments: b"A001\x00\x00\x13\x0c",
     },
     Row {
-        first: Step {
-            action: Action::Add,
-            key: A,
-            amount: 20,
-        },
-        second: Step {
-            action: Action::Verify,
-            key: A,
-            amount: 151,
-        },
+        calls: [Step(Add, A, 20), Step(Verify, A, 151)],
         wanted: Err((1, 0, b"\x00\x00\x15\x0c")),
         entries: 2,
         segments: b"A001\x00\x00\x13\x0c",
     },
     Row {
-        first: Step {
-            action: Action::Insert,
-            key: C,
-            amount: 5,
-        },
-        second: Step {
-            action: Action::Add,
-            key: A,
-            amount: 1,
-        },
+        calls: [Step(Insert, C, 5), Step(Add, A, 1)],
         wanted: Ok(2),
         entries: 3,
         segments: b"A001\x00\x00\x13\x1cC003\x00\x00\x00\x5c",
@@ -125,7 +89,7 @@ fn draft(alloc: Global, from: u64, row: Row) -> Result<Draft, AllocError>
     ensures line { IfOk result (λ draft. length draft.line < 2 ^ 16) }
     ensures reply { IfOk result (λ draft. length draft.reply < 2 ^ 16) }
 {
-    let deferred = queue(alloc, row.first, Some(row.second))?;
+    let deferred = queue(alloc, row.calls[0], Some(row.calls[1]))?;
     let line = Bytes::from_slice(alloc, b"T1 MOVE")?;
     let reply = Bytes::from_slice(alloc, b"DONE")?;
     Ok(Draft {

@@ -1,0 +1,62 @@
+//! What edits leave.
+
+use crate::trees::{
+    A1, A1_D1, A1_L1, A1_L1_Y1, A1_L1_Y1_N1, A1_L2, A2, A2_AUDIT_7, A3, Call, Steps, all_answer,
+};
+use std::test::Fail;
+
+const A9: Steps = &[(0, b"A9", 0)];
+
+/// A segment goes with all below it; its twins stay.
+static DELETED: [Call; 9] = [
+    Call::Delete(A1_L1, true),
+    Call::Delete(A1_L1, false),
+    Call::Delete(A1_L1_Y1_N1, false),
+    Call::Find(None, None, &[(6, None)], None),
+    Call::Find(None, None, &[(2, None)], Some(A1_L2)),
+    Call::Insert(A1_L1, true),
+    Call::Find(None, Some(A1_L1), &[], None),
+    Call::Delete(A1, true),
+    Call::Find(None, None, &[], Some(A2)),
+];
+
+/// A segment has other bytes; what is below it stays.
+static REPLACED: [Call; 9] = [
+    Call::Shows(&[(3, None)], b"D1."),
+    Call::Replace(A1_D1, b"D1!", true),
+    Call::Shows(&[(3, None)], b"D1!"),
+    Call::Replace(A2, b"A2!", true),
+    Call::Shows(&[(0, Some(b"A2"))], b"A2!"),
+    Call::Find(Some(A2), None, &[], Some(A2_AUDIT_7)),
+    Call::Replace(A9, b"A9!", false),
+    Call::Replace(A1_L1_Y1, b"Y1!", true),
+    Call::Shows(&[(5, None)], b"Y1!"),
+];
+
+/// Roots in front, between and behind, and the last one gone.
+static ROOTS: [Call; 6] = [
+    Call::Insert(A9, true),
+    Call::Find(Some(A3), None, &[(0, None)], Some(A9)),
+    Call::Delete(A9, true),
+    Call::Find(Some(A3), None, &[(0, None)], None),
+    Call::Delete(A9, false),
+    Call::Delete(&[], false),
+];
+
+#[test]
+fn a_delete_takes_all_below(rt: HostRuntime) -> Result<(), Fail> {
+    assert!(rt; all_answer(&rt, &DELETED)?);
+    Ok(())
+}
+
+#[test]
+fn a_replace_leaves_what_is_below(rt: HostRuntime) -> Result<(), Fail> {
+    assert!(rt; all_answer(&rt, &REPLACED)?);
+    Ok(())
+}
+
+#[test]
+fn roots_come_and_go(rt: HostRuntime) -> Result<(), Fail> {
+    assert!(rt; all_answer(&rt, &ROOTS)?);
+    Ok(())
+}

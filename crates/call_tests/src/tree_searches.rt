@@ -1,0 +1,106 @@
+//! What is found behind a position, below a parent, with arguments.
+
+use crate::trees::{
+    A1, A1_AUDIT_4, A1_AUDIT_9, A1_D1, A1_L1, A1_L1_Y1, A1_L1_Y1_N1, A1_L1_Y1_N2, A1_L2, A1_L3,
+    A1_P1, A1_P2, A2, A2_AUDIT_7, A3, A3_D9, Call, Steps, all_answer,
+};
+use std::test::Fail;
+
+/// The whole anchor in hierarchical order, each found behind the one before.
+static ORDER: [Call; 17] = [
+    Call::Find(None, None, &[], Some(A1)),
+    Call::Find(Some(A1), None, &[], Some(A1_AUDIT_9)),
+    Call::Find(Some(A1_AUDIT_9), None, &[], Some(A1_AUDIT_4)),
+    Call::Find(Some(A1_AUDIT_4), None, &[], Some(A1_L1)),
+    Call::Find(Some(A1_L1), None, &[], Some(A1_L1_Y1)),
+    Call::Find(Some(A1_L1_Y1), None, &[], Some(A1_L1_Y1_N1)),
+    Call::Find(Some(A1_L1_Y1_N1), None, &[], Some(A1_L1_Y1_N2)),
+    Call::Find(Some(A1_L1_Y1_N2), None, &[], Some(A1_L2)),
+    Call::Find(Some(A1_L2), None, &[], Some(A1_L3)),
+    Call::Find(Some(A1_L3), None, &[], Some(A1_D1)),
+    Call::Find(Some(A1_D1), None, &[], Some(A1_P1)),
+    Call::Find(Some(A1_P1), None, &[], Some(A1_P2)),
+    Call::Find(Some(A1_P2), None, &[], Some(A2)),
+    Call::Find(Some(A2), None, &[], Some(A2_AUDIT_7)),
+    Call::Find(Some(A2_AUDIT_7), None, &[], Some(A3)),
+    Call::Find(Some(A3), None, &[], Some(A3_D9)),
+    Call::Find(Some(A3_D9), None, &[], None),
+];
+
+/// Below a parent, and no further.
+static WITHIN: [Call; 9] = [
+    Call::Find(None, Some(A1), &[], Some(A1_AUDIT_9)),
+    Call::Find(Some(A1), Some(A1), &[], Some(A1_AUDIT_9)),
+    Call::Find(Some(A1_P2), Some(A1), &[], None),
+    Call::Find(None, Some(A1_L1), &[], Some(A1_L1_Y1)),
+    Call::Find(Some(A1_L1_Y1_N2), Some(A1_L1), &[], None),
+    Call::Find(None, Some(A1_L2), &[], None),
+    Call::Find(None, Some(A1_AUDIT_9), &[], None),
+    Call::Find(None, Some(A3), &[(3, None)], Some(A3_D9)),
+    Call::Find(Some(A1_P1), Some(A1), &[(4, None)], Some(A1_P2)),
+];
+
+/// Types and keys.
+static ARGUMENTS: [Call; 16] = [
+    Call::Find(Some(A1), None, &[(0, None)], Some(A2)),
+    Call::Find(Some(A3), None, &[(0, None)], None),
+    Call::Find(None, None, &[(6, None)], Some(A1_L1_Y1_N1)),
+    Call::Find(Some(A1_L1_Y1_N1), None, &[(6, None)], Some(A1_L1_Y1_N2)),
+    Call::Find(Some(A1_L1_Y1_N2), None, &[(6, None)], None),
+    Call::Find(None, None, &[(0, Some(b"A3"))], Some(A3)),
+    Call::Find(None, None, &[(0, Some(b"A3")), (3, None)], Some(A3_D9)),
+    Call::Find(None, None, &[(0, Some(b"A9"))], None),
+    Call::Find(None, None, &[(2, Some(b"L2"))], Some(A1_L2)),
+    Call::Find(Some(A1_L2), None, &[(2, Some(b"L2"))], None),
+    Call::Find(None, None, &[(1, None)], Some(A1_AUDIT_9)),
+    Call::Find(Some(A1_AUDIT_4), None, &[(1, None)], Some(A2_AUDIT_7)),
+    Call::Find(
+        None,
+        None,
+        &[(2, Some(b"L1")), (6, Some(b"N2"))],
+        Some(A1_L1_Y1_N2),
+    ),
+    Call::Find(None, None, &[(2, Some(b"L2")), (6, None)], None),
+    Call::Find(None, None, &[(3, Some(b"D1")), (2, None)], None),
+    Call::Find(None, None, &[(3, None)], Some(A1_D1)),
+];
+
+const A1_AUDIT_5: Steps = &[(0, b"A1", 0), (1, b"", 5)];
+
+const A1_L2_Y5: Steps = &[(0, b"A1", 0), (2, b"L2", 0), (5, b"Y5", 0)];
+
+const A0: Steps = &[(0, b"A0", 0)];
+
+const A2_D1: Steps = &[(0, b"A2", 0), (3, b"D1", 0)];
+
+/// Positions at which nothing stands any more.
+static GONE: [Call; 4] = [
+    Call::Find(Some(A1_AUDIT_5), None, &[], Some(A1_AUDIT_4)),
+    Call::Find(Some(A1_L2_Y5), None, &[], Some(A1_L3)),
+    Call::Find(Some(A0), None, &[], Some(A1)),
+    Call::Find(Some(A2_D1), None, &[], Some(A3)),
+];
+
+#[test]
+fn the_order_is_hierarchical(rt: HostRuntime) -> Result<(), Fail> {
+    assert!(rt; all_answer(&rt, &ORDER)?);
+    Ok(())
+}
+
+#[test]
+fn a_search_stays_below_its_parent(rt: HostRuntime) -> Result<(), Fail> {
+    assert!(rt; all_answer(&rt, &WITHIN)?);
+    Ok(())
+}
+
+#[test]
+fn arguments_name_types_and_keys(rt: HostRuntime) -> Result<(), Fail> {
+    assert!(rt; all_answer(&rt, &ARGUMENTS)?);
+    Ok(())
+}
+
+#[test]
+fn a_position_need_not_stand(rt: HostRuntime) -> Result<(), Fail> {
+    assert!(rt; all_answer(&rt, &GONE)?);
+    Ok(())
+}

@@ -1,3 +1,0 @@
-mod Settled
-mod Reruns
-mod Fitting

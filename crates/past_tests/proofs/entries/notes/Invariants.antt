@@ -1,6 +1,0 @@
-use Rattle.std.proofs.Common.{◌≤◌}
-use Rattle.std.specs.List.{AllByRecursion}
-use Rattle.past_tests.proofs.entries.notes.Given as goal
-
-abbrev pub invariant-loop-note : goal.invariant-loop-note
-invariant-loop-note l = AllByRecursion (λ note. note ≤ l.place) l.notes

@@ -1,8 +1,0 @@
-use Rattle.std.proofs.Common.{◌≤◌, arith}
-use Rattle.past_tests.proofs.Settled.{settled_later}
-use Rattle.past_tests.proofs.steps.run_steps.Goals as goal
-
-pub change-requires : goal.change-requires
-change-requires c =
-    let le : c.loop-step.last ≤ c.max-last.result = grind (arith, c.max-last.ensures) in
-    settled_later c.loop-step.last c.max-last.result c.loop-step.past le c.loop-step.invariant
