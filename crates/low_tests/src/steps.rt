@@ -2,21 +2,20 @@
 use fp_site::{Failed, Site};
 
 /// A call of a site.
-#[derive(Clone, Copy)]
-pub(super) enum Step {
+pub(crate) enum Step {
     Size,
     Reach,
     /// Four bytes from this offset on.
-    Read(u32),
-    /// Two bytes at this offset.
-    Write(u32, [u8; 2]),
+    Read(u64),
+    /// These bytes, eight at most, at this offset.
+    Write(u32, &'static [u8]),
     Sync,
-    Send,
+    Send(&'static [u8]),
 }
 
 /// What it answers.
-#[derive(Clone, Copy, PartialEq, Eq)]
-pub(super) enum Answer {
+#[derive(Drop, PartialEq)]
+pub(crate) enum Answer {
     Done,
     Failed,
     Length(u64),
@@ -24,13 +23,13 @@ pub(super) enum Answer {
 }
 
 /// Takes the steps on a data set. The place of the first that answers something else.
-pub(super) fn first_wrong<T: Site>(
+pub(crate) fn first_wrong<T: Site>(
     site: &mut T,
     set: u16,
     rows: &[(Step, Answer)],
 ) -> Option<usize> {
     for (place, (step, wanted)) in rows.iter().enumerate() {
-        if take(site, set, *step) != *wanted {
+        if take(site, set, step) != *wanted {
             return Some(place);
         }
     }
@@ -38,14 +37,14 @@ pub(super) fn first_wrong<T: Site>(
 }
 
 /// Takes one step on a data set.
-pub(super) fn take<T: Site>(site: &mut T, set: u16, step: Step) -> Answer {
-    match step {
+pub(crate) fn take<T: Site>(site: &mut T, set: u16, step: &Step) -> Answer {
+    match *step {
         Step::Size => size(site, set),
         Step::Reach => ended(site.reach(set, 1 << 62)),
         Step::Read(at) => read(site, set, at),
-        Step::Write(at, bytes) => ended(site.write_at(set, u64::from(at), &bytes)),
+        Step::Write(at, bytes) => write(site, set, at, bytes),
         Step::Sync => ended(site.sync(set)),
-        Step::Send => ended(site.send(b"T1 OK\n")),
+        Step::Send(text) => ended(site.send(text)),
     }
 }
 
@@ -63,10 +62,15 @@ fn size<T: Site>(site: &mut T, set: u16) -> Answer {
     }
 }
 
-fn read<T: Site>(site: &mut T, set: u16, at: u32) -> Answer {
+fn read<T: Site>(site: &mut T, set: u16, at: u64) -> Answer {
     let mut into = [9u8; 4];
-    match site.read_at(set, u64::from(at), &mut into) {
+    match site.read_at(set, at, &mut into) {
         Ok(()) => Answer::Bytes(into),
         Err(Failed) => Answer::Failed,
     }
+}
+
+fn write<T: Site>(site: &mut T, set: u16, at: u32, bytes: &[u8]) -> Answer {
+    let few = &bytes[..bytes.len().min(8)];
+    ended(site.write_at(set, u64::from(at), few))
 }

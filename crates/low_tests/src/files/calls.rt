@@ -1,7 +1,8 @@
 //! The bytes that reach files and come back, and what is sent.
+use super::steps::{ends, fresh, goes, site_in, site_of};
 use crate::steps::Answer::{Bytes, Done, Failed, Length};
-use crate::steps::Step::{Finish, Reach, Read, Send, Size, Sync, Write, WriteNothing};
-use crate::steps::{Answer, Step, ends, fresh, goes, site_in, site_of};
+use crate::steps::Step::{Reach, Read, Send, Size, Sync, Write};
+use crate::steps::{Answer, Step};
 use fp_files::Access;
 use fp_site::Site;
 use std::fs;
@@ -16,15 +17,15 @@ const NAMES: [(u16, &str); 5] = [
     (258, "names/area258"),
 ];
 
-const MAKE_NONE: [(Step, Answer); 5] = [
+static MAKE_NONE: [(Step, Answer); 5] = [
     (Size, Length(0)),
     (Read(7), Bytes([0; 4])),
     (Sync, Done),
     (Reach, Done),
-    (WriteNothing, Done),
+    (Write(5, b""), Done),
 ];
 
-const MAKE_ONE: [(Step, Answer); 3] = [(Write(2, *b"abc"), Done), (Sync, Done), (Size, Length(5))];
+static MAKE_ONE: [(Step, Answer); 3] = [(Write(2, b"abc"), Done), (Sync, Done), (Size, Length(5))];
 
 #[test]
 fn data_sets_are_files_of_their_names(rt: HostRuntime) -> Result<(), Fail> {
@@ -55,9 +56,9 @@ fn is_made(rt: &HostRuntime, name: &str) -> Result<(), Fail> {
     Ok(())
 }
 
-const IN_PLACE: [(Step, Answer); 7] = [
+static IN_PLACE: [(Step, Answer); 7] = [
     (Read(3), Bytes(*b"3456")),
-    (Write(3, *b"abc"), Done),
+    (Write(3, b"abc"), Done),
     (Read(4), Bytes(*b"bc67")),
     (Read(8), Bytes(*b"89\0\0")),
     (Read(u64::MAX), Bytes([0; 4])),
@@ -76,15 +77,15 @@ fn a_file_that_is_there_is_read_and_written_in_place(rt: HostRuntime) -> Result<
 }
 
 // Byte number n of the long file is n / 251, cut to one byte. The first block that is read ends at 65,536 + 3.
-const LONG: [(Step, Answer); 9] = [
+static LONG: [(Step, Answer); 9] = [
     (Read(3), Bytes([0, 0, 0, 0])),
     (Read(65_535), Bytes([5, 5, 5, 5])),
     (Read(65_761), Bytes([5, 6, 6, 6])),
     (Read(249), Bytes([0, 0, 1, 1])),
-    (Write(250, *b"abc"), Done),
+    (Write(250, b"abc"), Done),
     (Read(249), Bytes(*b"\0abc")),
     (Read(199_998), Bytes([28, 28, 0, 0])),
-    (Write(200_001, *b"end"), Done),
+    (Write(200_001, b"end"), Done),
     (Read(199_999), Bytes(*b"\x1c\0en")),
 ];
 
@@ -107,7 +108,7 @@ fn what_was_written_is_not_read_from_an_older_block(rt: HostRuntime) -> Result<(
     fs::write(&rt, "long/log", bytes.as_slice())?;
     assert!(rt; site.read_at(0, 0, bytes.as_mut_slice()).is_ok());
     for (number, byte) in bytes.iter().enumerate() {
-        assert_eq!(rt; *byte, long_byte(number), "byte {number}");
+        assert!(rt; *byte == long_byte(number), "byte {number}");
     }
     goes(&rt, &mut site, 0, &LONG)?;
     ends(&rt, "long", &[])
@@ -124,39 +125,37 @@ fn a_file_that_is_rewritten_holds_the_same_bytes(rt: HostRuntime) -> Result<(), 
         let front = &bytes[..length.min(bytes.len())];
         fs::write(&rt, "same/log", front)?;
         let mut site = site_in(&rt, "same", Access::Change, "same/out")?;
-        goes(&rt, &mut site, 0, &[(Size, Length(length as u64))])?;
+        assert!(rt; site.size(0) == Ok(length as u64));
         holds(&rt, "same/log", front)?;
     }
     ends(&rt, "same", &[])
 }
 
 // Calls, and how many bytes the output has behind each.
-const SENDS: [(Step, Answer, usize); 5] = [
-    (Send(*b"one\n"), Done, 0),
-    (Send(*b"two\n"), Done, 0),
-    (Size, Length(0), 8),
-    (Send(*b"six\n"), Done, 8),
-    (Finish, Done, 12),
+static SENDS: [(&[(Step, Answer)], usize); 4] = [
+    (&[(Send(b"one\n"), Done)], 0),
+    (&[(Send(b"two\n"), Done)], 0),
+    (&[(Size, Length(0))], 8),
+    (&[(Send(b"six\n"), Done)], 8),
 ];
 
 #[test]
 fn sends_are_gathered_up_to_the_next_call(rt: HostRuntime) -> Result<(), Fail> {
     let mut site = site_of(&rt, "sends", "sends/out")?;
-    for (step, want, length) in SENDS {
-        goes(&rt, &mut site, 0, &[(step, want)])?;
-        assert_eq!(rt; fs::read(&rt, "sends/out")?.len(), length);
+    for (place, (steps, length)) in SENDS.iter().enumerate() {
+        goes(&rt, &mut site, 0, steps)?;
+        assert!(rt; fs::read(&rt, "sends/out")?.len() == *length, "at {place}");
     }
-    let sent = fs::read(&rt, "sends/out")?;
-    assert_eq!(rt; sent.as_slice(), b"one\ntwo\nsix\n".as_slice());
+    assert!(rt; site.finish().is_ok());
+    holds(&rt, "sends/out", b"one\ntwo\nsix\n")?;
     ends(&rt, "sends", &[])
 }
 
-const FULL: [(Step, Answer); 5] = [
-    (Send(*b"lost"), Done),
+static FULL: [(Step, Answer); 4] = [
+    (Send(b"lost"), Done),
     (Size, Failed),
-    (Write(0, *b"abc"), Failed),
+    (Write(0, b"abc"), Failed),
     (Reach, Failed),
-    (Finish, Failed),
 ];
 
 #[test]
@@ -164,7 +163,7 @@ fn an_output_that_is_full_fails_the_next_call(rt: HostRuntime) -> Result<(), Fai
     fresh(&rt, "full")?;
     let mut site = site_in(&rt, "full", Access::Change, "/dev/full")?;
     goes(&rt, &mut site, 0, &FULL)?;
-    assert!(rt; !fs::exists(&rt, "full/log")?);
+    assert!(rt; site.finish().is_err() && !fs::exists(&rt, "full/log")?);
     fs::remove_dir_all(&rt, "full")?;
     Ok(())
 }
