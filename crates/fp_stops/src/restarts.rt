@@ -1,15 +1,13 @@
 //! What restarts give: of a log with two groups, of every stop of a making, and of logs that are damaged.
 ghost use Rattle.fp_model.specs.LogText.{FitsEntry, FitsFront, FitsItem, KeepsRules};
-ghost use Rattle.fp_model.specs.WellFormed.{IsMsdbDef};
+ghost use Rattle.fp_model.specs.WellFormed.{AreDefs};
 ghost use Rattle.fp_site.specs.Memory.{memory_reads};
 ghost use Rattle.log_groups.specs.Images.{as_front};
-ghost use Rattle.std.specs.List.{AllByRecursion};
-ghost use Rattle.std.specs.Prelude.{◌≡◌, ◌+◌, ◌-◌, ◌<◌, ◌^◌, IfOk, length};
+ghost use Rattle.std.specs.Prelude.{◌≡◌, ◌+◌, ◌-◌, ◌<◌, ◌^◌, IfOk};
 
-use fp_model::{
-    AreaDef, AreaEnds, Bytes, Db, DedbDef, Defs, Entry, FieldDef, FieldKind, Item, Kind, List,
-    MsdbDef, Name, Outcome,
-};
+use crate::groups::{front_of, may_be_left, stopping_copy};
+use crate::systems::{NOTES, defs_of};
+use fp_model::{AreaEnds, Bytes, Db, Defs, Entry, Item, List, Outcome};
 use fp_restart::{RestartFault, define, restart, whole_db};
 use fp_site::{MemorySite, Site};
 use log_groups::{Front, Log};
@@ -20,88 +18,33 @@ use std::test::Fail;
 // lengths.
 const FIRST: u64 = 1 + 8 + (4 + 1) + (4 + 1);
 
-// A database of segments with a key of 4 bytes and 4 bytes more; one of them is loaded.
-fn accounts(alloc: Global) -> Result<MsdbDef, AllocError>
-    ensures { IfOk result (λ def. IsMsdbDef def) }
-{
-    let fields = [
-        FieldDef {
-            name: Name(*b"ACCT    "),
-            kind: FieldKind::C,
-            at: 0,
-            length: 4,
-        },
-        FieldDef {
-            name: Name(*b"NOTE    "),
-            kind: FieldKind::C,
-            at: 4,
-            length: 4,
-        },
-    ];
-    let fields = List::from_vec(Vec::from_array(alloc, fields)?);
-    let mut load = List::new(alloc);
-    load.push(Bytes::from_slice(alloc, b"A001open")?)?;
-    Ok(MsdbDef {
-        name: Name(*b"ACCTS   "),
-        dynamic: true,
-        fields,
-        length: 8,
-        load,
-    })
-}
-
-fn defs(alloc: Global, dedbs: List<DedbDef>) -> Result<Defs, AllocError>
-    ensures msdbs { IfOk result (λ defs. AllByRecursion IsMsdbDef defs.msdbs) }
-    ensures text { IfOk result (λ defs. length defs.text < 2 ^ 32) }
-{
-    let mut msdbs = List::new(alloc);
-    msdbs.push(accounts(alloc)?)?;
-    Ok(Defs {
-        regions: List::new(alloc),
-        router: Kind::Fold,
-        log_group: 1,
-        pool: 1,
-        tries: 0,
-        msdbs,
-        dedbs,
-        text: Bytes::from_slice(alloc, b"D")?,
-    })
-}
+// One account is loaded.
+const LOADED: &str = "[[\"A001\", \"open\"]]\n";
 
 // A data entry database of two areas, with six anchors and two.
-fn orders(alloc: Global) -> Result<List<DedbDef>, AllocError> {
-    let mut areas = List::new(alloc);
-    for (name, uows, base) in [(*b"AREA1   ", 2, 3), (*b"AREA2   ", 1, 2)] {
-        areas.push(AreaDef {
-            name: Name(name),
-            uows,
-            base,
-            overflow: 1,
-            capacity: 0,
-            copies: 1,
-        })?;
-    }
-    let mut dedbs = List::new(alloc);
-    dedbs.push(DedbDef {
-        name: Name(*b"ORDERS  "),
-        randomizer: Kind::Fold,
-        ci: 512,
-        segments: List::new(alloc),
-        areas,
-    })?;
-    Ok(dedbs)
-}
+const ORDERS: &str = "[[dedb]]
+name = \"ORDERS\"
+randomizer = \"FOLD\"
+ci = 512
+[[dedb.segment]]
+name = \"ORDER\"
+fields = [[\"ONO\", \"C\", 4]]
+[[dedb.area]]
+name = \"AREA1\"
+uows = 2
+base = 3
+overflow = 1
+[[dedb.area]]
+name = \"AREA2\"
+uows = 1
+base = 2
+overflow = 1
+";
 
-fn front(alloc: Global, defs: &Defs, scripts: u8) -> Result<Front, AllocError>
-    requires { length defs.now.text < 2 ^ 32 }
-    ensures fits { IfOk result (λ front. FitsFront (as_front front)) }
-    ensures text { IfOk result (λ front. (as_front front).defs ≡ defs.now.text) }
+fn front(alloc: Global, scripts: u8) -> Result<Front, AllocError>
+    ensures { IfOk result (λ front. FitsFront (as_front front)) }
 {
-    Ok(Front {
-        format: 1,
-        defs: defs.text.copy()?,
-        scripts: Bytes::from_slice(alloc, &[scripts])?,
-    })
+    front_of(alloc, b"D", &[scripts])
 }
 
 fn segment(alloc: Global, msdb: u8, key: &[u8; 4], bytes: &[u8; 8]) -> Result<Item, AllocError>
@@ -166,47 +109,42 @@ fn seal(alloc: Global, log: &mut Log, site: &mut MemorySite, item: Item) -> Resu
 }
 
 // Makes a new log.
-fn make(alloc: Global, defs: &Defs, site: &mut MemorySite) -> Result<(), RestartFault>
-    requires { length defs.now.text < 2 ^ 32 }
-{
-    let front = front(alloc, defs, b'S')?;
+fn make(alloc: Global, defs: &Defs, site: &mut MemorySite) -> Result<(), RestartFault> {
+    let front = front(alloc, b'S')?;
     define(alloc, defs, &front, site)
 }
 
 // A new log, open.
-fn new_log(alloc: Global, defs: &Defs, site: &mut MemorySite) -> Result<Log, RestartFault>
-    requires { length defs.now.text < 2 ^ 32 }
-{
+fn new_log(alloc: Global, defs: &Defs, site: &mut MemorySite) -> Result<Log, RestartFault> {
     make(alloc, defs, site)?;
-    let front = front(alloc, defs, b'S')?;
+    let front = front(alloc, b'S')?;
     Ok(Log::open(alloc, site, &front)?)
 }
 
-// A new log with two groups. They change the segment that was loaded, and put one beside it.
-fn write_two(alloc: Global, defs: &Defs, site: &mut MemorySite) -> Result<(), RestartFault>
-    requires { length defs.now.text < 2 ^ 32 }
+// A new log with a group of each item. Where the second one's gate stands.
+fn write_both(
+    alloc: Global,
+    defs: &Defs,
+    site: &mut MemorySite,
+    first: Item,
+    second: Item,
+) -> Result<u64, RestartFault>
+    requires first { FitsItem first }
+    requires second { FitsItem second }
 {
     let mut log = new_log(alloc, defs, site)?;
-    seal(
-        alloc,
-        &mut log,
-        site,
-        segment(alloc, 0, b"A001", b"A001paid")?,
-    )?;
-    seal(
-        alloc,
-        &mut log,
-        site,
-        segment(alloc, 0, b"B002", b"B002open")?,
-    )
+    seal(alloc, &mut log, site, first)?;
+    let at = log.gate();
+    seal(alloc, &mut log, site, second)?;
+    Ok(at)
 }
 
-// A new site with a log of two groups.
-fn two_written(alloc: Global, defs: &Defs) -> Result<MemorySite, RestartFault>
-    requires { length defs.now.text < 2 ^ 32 }
-{
+// A new site with a log of two groups. They change the segment that was loaded, and put one beside it.
+fn two_written(alloc: Global, defs: &Defs) -> Result<MemorySite, RestartFault> {
     let mut site = MemorySite::new(alloc, &[])?;
-    write_two(alloc, defs, &mut site)?;
+    let paid = segment(alloc, 0, b"A001", b"A001paid")?;
+    let open = segment(alloc, 0, b"B002", b"B002open")?;
+    write_both(alloc, defs, &mut site, paid, open)?;
     Ok(site)
 }
 
@@ -228,10 +166,9 @@ fn read(
     scripts: u8,
     site: &mut MemorySite,
 ) -> Result<(u64, Bytes), RestartFault>
-    requires msdbs { AllByRecursion IsMsdbDef defs.now.msdbs }
-    requires text { length defs.now.text < 2 ^ 32 }
+    requires { AreDefs defs.now }
 {
-    let front = front(alloc, defs, scripts)?;
+    let front = front(alloc, scripts)?;
     let mut parts = restart(alloc, defs, &front, site)?;
     let db = whole_db(alloc, &mut parts, defs, site)?;
     Ok((parts.1.sealed(), segments_of(alloc, &db)?))
@@ -244,12 +181,11 @@ fn read_once(
     scripts: u8,
     site: &mut MemorySite,
 ) -> Result<u64, RestartFault>
-    requires msdbs { AllByRecursion IsMsdbDef defs.now.msdbs }
-    requires text { length defs.now.text < 2 ^ 32 }
+    requires { AreDefs defs.now }
     ensures { memory_reads site.new 0 < 2 ^ 64 - 1 →
         IfOk result (λ gate. memory_reads site.new 0 ≡ memory_reads site.old 0 + gate + 1) }
 {
-    let front = front(alloc, defs, scripts)?;
+    let front = front(alloc, scripts)?;
     let parts = restart(alloc, defs, &front, site)?;
     Ok(parts.1.gate())
 }
@@ -258,7 +194,7 @@ fn read_once(
 #[test]
 fn a_restart_reads_each_byte_once(rt: HostRuntime) -> Result<(), Fail> {
     let alloc = rt.alloc();
-    let defs = defs(alloc, List::new(alloc))?;
+    let defs = defs_of(alloc, &[NOTES, LOADED])?;
     let mut site = two_written(alloc, &defs)?;
     let gate = FIRST + 2 * (1 + 8 + 29 + 17);
     assert!(rt; read_once(alloc, &defs, b'S', &mut site) == Ok(gate));
@@ -276,7 +212,7 @@ fn is_found(answer: &Result<(u64, Bytes), RestartFault>, count: u64, segments: &
 #[test]
 fn a_restart_gives_the_segments_of_the_last_group(rt: HostRuntime) -> Result<(), Fail> {
     let alloc = rt.alloc();
-    let defs = defs(alloc, List::new(alloc))?;
+    let defs = defs_of(alloc, &[NOTES, LOADED])?;
     let mut site = two_written(alloc, &defs)?;
     let answer = read(alloc, &defs, b'S', &mut site);
     assert!(rt; is_found(&answer, 2, b"A001paidB002open"));
@@ -285,10 +221,9 @@ fn a_restart_gives_the_segments_of_the_last_group(rt: HostRuntime) -> Result<(),
 
 // Restarts, and writes one group more.
 fn go_on(alloc: Global, defs: &Defs, site: &mut MemorySite) -> Result<(), RestartFault>
-    requires msdbs { AllByRecursion IsMsdbDef defs.now.msdbs }
-    requires text { length defs.now.text < 2 ^ 32 }
+    requires { AreDefs defs.now }
 {
-    let front = front(alloc, defs, b'S')?;
+    let front = front(alloc, b'S')?;
     let (_, mut log, _) = restart(alloc, defs, &front, site)?;
     let item = segment(alloc, 0, b"B002", b"B002shut")?;
     seal(alloc, &mut log, site, item)
@@ -297,7 +232,7 @@ fn go_on(alloc: Global, defs: &Defs, site: &mut MemorySite) -> Result<(), Restar
 #[test]
 fn a_log_goes_on_behind_what_a_restart_found(rt: HostRuntime) -> Result<(), Fail> {
     let alloc = rt.alloc();
-    let defs = defs(alloc, List::new(alloc))?;
+    let defs = defs_of(alloc, &[NOTES, LOADED])?;
     let mut site = two_written(alloc, &defs)?;
     assert!(rt; go_on(alloc, &defs, &mut site).is_ok());
     let answer = read(alloc, &defs, b'S', &mut site);
@@ -315,14 +250,6 @@ fn is_foreign(answer: &Result<(u64, Bytes), RestartFault>) -> bool {
     matches!(answer, Err(RestartFault::Foreign))
 }
 
-// Whether a crash may leave this of a making over a log with two groups that stopped behind so many calls. Of such a
-// log a new one is made by nine.
-fn may_be_left(after: u64, answer: &Result<(u64, Bytes), RestartFault>) -> bool {
-    (after < 5 && is_found(answer, 2, b"A001paidB002open"))
-        || (after >= 3 && after < 9 && is_foreign(answer))
-        || (after >= 7 && is_start(answer))
-}
-
 // Whether every snapshot of a site restarts to what may be left of a making that stopped so.
 fn is_left_well(
     alloc: Global,
@@ -330,14 +257,14 @@ fn is_left_well(
     site: &MemorySite,
     after: u64,
 ) -> Result<bool, AllocError>
-    requires msdbs { AllByRecursion IsMsdbDef defs.now.msdbs }
-    requires text { length defs.now.text < 2 ^ 32 }
+    requires { AreDefs defs.now }
 {
     for choice in 0..8 {
         let snapshot = site.snapshot_as(choice)?;
         let mut left = MemorySite::from_snapshot(alloc, snapshot, &[])?;
         let answer = read(alloc, defs, b'S', &mut left);
-        if !may_be_left(after, &answer) {
+        let is_old = is_found(&answer, 2, b"A001paidB002open");
+        if !may_be_left(after, is_old, is_foreign(&answer), is_start(&answer)) {
             return Ok(false);
         }
     }
@@ -352,12 +279,9 @@ fn made_anew(
     old: &MemorySite,
     after: u64,
 ) -> Result<(MemorySite, bool), AllocError>
-    requires after { after < 100 }
-    requires text { length defs.now.text < 2 ^ 32 }
+    requires { after < 100 }
 {
-    let failing = [after, after + 1];
-    let snapshot = old.snapshot_as(0)?;
-    let mut site = MemorySite::from_snapshot(alloc, snapshot, &failing)?;
+    let mut site = stopping_copy(alloc, old, after)?;
     let made = make(alloc, defs, &mut site).is_ok();
     Ok((site, made))
 }
@@ -367,7 +291,7 @@ fn after_each_stop_of_define_the_old_state_stands_or_none_or_the_start(
     rt: HostRuntime,
 ) -> Result<(), Fail> {
     let alloc = rt.alloc();
-    let defs = defs(alloc, List::new(alloc))?;
+    let defs = defs_of(alloc, &[NOTES, LOADED])?;
     let old = two_written(alloc, &defs)?;
     for after in 0..10 {
         let (site, made) = made_anew(alloc, &defs, &old, after)?;
@@ -387,8 +311,7 @@ fn with_bytes(
     bytes: &[u8; 12],
     count: usize,
 ) -> Result<(u64, Bytes), RestartFault>
-    requires msdbs { AllByRecursion IsMsdbDef defs.now.msdbs }
-    requires text { length defs.now.text < 2 ^ 32 }
+    requires { AreDefs defs.now }
 {
     let mut site = MemorySite::new(alloc, &[])?;
     make(alloc, defs, &mut site)?;
@@ -418,7 +341,7 @@ static GATES: [([u8; 12], usize, bool); 6] = [
 #[test]
 fn an_open_gate_without_a_group_is_damaged_at_its_place(rt: HostRuntime) -> Result<(), Fail> {
     let alloc = rt.alloc();
-    let defs = defs(alloc, List::new(alloc))?;
+    let defs = defs_of(alloc, &[NOTES, LOADED])?;
     for (row, (bytes, count, is_damage)) in GATES.iter().enumerate() {
         let answer = with_bytes(alloc, &defs, bytes, *count);
         let is_so = if *is_damage {
@@ -434,7 +357,7 @@ fn an_open_gate_without_a_group_is_damaged_at_its_place(rt: HostRuntime) -> Resu
 #[test]
 fn storage_without_a_log_is_foreign(rt: HostRuntime) -> Result<(), Fail> {
     let alloc = rt.alloc();
-    let defs = defs(alloc, List::new(alloc))?;
+    let defs = defs_of(alloc, &[NOTES, LOADED])?;
     let mut site = MemorySite::new(alloc, &[])?;
     assert!(rt; is_foreign(&read(alloc, &defs, b'S', &mut site)));
     Ok(())
@@ -443,7 +366,7 @@ fn storage_without_a_log_is_foreign(rt: HostRuntime) -> Result<(), Fail> {
 #[test]
 fn another_front_is_foreign_and_stays(rt: HostRuntime) -> Result<(), Fail> {
     let alloc = rt.alloc();
-    let defs = defs(alloc, List::new(alloc))?;
+    let defs = defs_of(alloc, &[NOTES, LOADED])?;
     let mut site = two_written(alloc, &defs)?;
     let before = Vec::from_slice(alloc, site.contents(0))?;
     assert!(rt; is_foreign(&read(alloc, &defs, b'X', &mut site)));
@@ -487,22 +410,16 @@ fn write_case(
     defs: &Defs,
     site: &mut MemorySite,
     case: u64,
-) -> Result<u64, RestartFault>
-    requires { length defs.now.text < 2 ^ 32 }
-{
-    let mut log = new_log(alloc, defs, site)?;
+) -> Result<u64, RestartFault> {
     let first = segment(alloc, 0, b"A001", b"A001paid")?;
-    seal(alloc, &mut log, site, first)?;
-    let at = log.gate();
     let second = item(alloc, case)?;
-    seal(alloc, &mut log, site, second)?;
-    Ok(at)
+    write_both(alloc, defs, site, first, second)
 }
 
 #[test]
 fn an_item_that_does_not_fit_is_damage_at_its_group(rt: HostRuntime) -> Result<(), Fail> {
     let alloc = rt.alloc();
-    let defs = defs(alloc, orders(alloc)?)?;
+    let defs = defs_of(alloc, &[NOTES, LOADED, ORDERS])?;
     for case in 0..8 {
         let mut site = MemorySite::new(alloc, &[])?;
         let gate = write_case(alloc, &defs, &mut site, case)?;
@@ -520,16 +437,10 @@ fn write_range(
     site: &mut MemorySite,
     set: u16,
     ci: u64,
-) -> Result<u64, RestartFault>
-    requires { length defs.now.text < 2 ^ 32 }
-{
-    let mut log = new_log(alloc, defs, site)?;
+) -> Result<u64, RestartFault> {
     let first = image(alloc, 3, 1)?;
-    seal(alloc, &mut log, site, first)?;
-    let at = log.gate();
     let second = range(alloc, set, ci)?;
-    seal(alloc, &mut log, site, second)?;
-    Ok(at)
+    write_both(alloc, defs, site, first, second)
 }
 
 // Intervals, and whether a range of one is damage there.
@@ -538,7 +449,7 @@ static RANGES: [(u16, u64, bool); 3] = [(3, 1, false), (3, 2, true), (4, 1, true
 #[test]
 fn a_range_without_its_image_is_damage_at_its_group(rt: HostRuntime) -> Result<(), Fail> {
     let alloc = rt.alloc();
-    let defs = defs(alloc, orders(alloc)?)?;
+    let defs = defs_of(alloc, &[NOTES, LOADED, ORDERS])?;
     for (row, (set, ci, is_damage)) in RANGES.iter().enumerate() {
         let mut site = MemorySite::new(alloc, &[])?;
         let gate = write_range(alloc, &defs, &mut site, *set, *ci)?;
@@ -562,7 +473,7 @@ fn is_formatted(db: &Db) -> bool {
 #[test]
 fn data_entry_databases_are_as_they_were_formatted(rt: HostRuntime) -> Result<(), Fail> {
     let alloc = rt.alloc();
-    let defs = defs(alloc, orders(alloc)?)?;
+    let defs = defs_of(alloc, &[NOTES, LOADED, ORDERS])?;
     let mut site = MemorySite::new(alloc, &[])?;
     let db = started(alloc, &defs, &mut site)?;
     assert!(rt; is_formatted(&db));
@@ -571,11 +482,10 @@ fn data_entry_databases_are_as_they_were_formatted(rt: HostRuntime) -> Result<()
 
 // The state of a new log.
 fn started(alloc: Global, defs: &Defs, site: &mut MemorySite) -> Result<Db, RestartFault>
-    requires msdbs { AllByRecursion IsMsdbDef defs.now.msdbs }
-    requires text { length defs.now.text < 2 ^ 32 }
+    requires { AreDefs defs.now }
 {
     make(alloc, defs, site)?;
-    let front = front(alloc, defs, b'S')?;
+    let front = front(alloc, b'S')?;
     let mut parts = restart(alloc, defs, &front, site)?;
     whole_db(alloc, &mut parts, defs, site)
 }

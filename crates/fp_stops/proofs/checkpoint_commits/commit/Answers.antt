@@ -2,7 +2,7 @@ use Rattle.std.proofs.Common.{◌∙◌, rules, subst, sym}
 use Rattle.std.specs.List.{AllZip}
 use Rattle.fp_model.specs.CheckpointText.{IsMsdbOf}
 use Rattle.msdb_store.specs.Settling.{CanSettle, IsStaged}
-use Rattle.checkpoint_tests.proofs.commits.commit.Goals as goal
+use Rattle.fp_stops.proofs.checkpoint_commits.commit.Goals as goal
 
 pub returns-clause-of : goal.returns-clause-of
 returns-clause-of c =

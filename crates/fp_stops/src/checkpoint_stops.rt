@@ -5,7 +5,7 @@ ghost use Rattle.fp_model.specs.WellFormed.{AreDefs};
 ghost use Rattle.std.specs.Option.{option_copied};
 ghost use Rattle.std.specs.Prelude.{◌≤◌};
 
-use crate::samples::{FIRST, SECOND, defs_of};
+use crate::systems::{NOTES, defs_of};
 use balancing::Lasts;
 use fp_model::Defs;
 use fp_site::{MemorySite, Site};
@@ -13,6 +13,12 @@ use msdb_checkpoint::{Checkpoints, CkptFault, Loaded};
 use msdb_store::MsdbStore;
 use std::alloc::{AllocError, Global};
 use std::test::Fail;
+
+/// What is loaded at the first checkpoint,
+const FIRST: &str = "[[\"A002\", \"old\"], [\"A001\", \"one\"]]\n";
+
+/// and at the second.
+const SECOND: &str = "[[\"A002\", \"old\"], [\"A001\", \"two\"]]\n";
 
 /// Gives data sets 1 and 2 a byte, as a site has them that was made.
 pub(crate) fn prepare(site: &mut MemorySite) -> bool {
@@ -129,8 +135,8 @@ const CALLS: u64 = 36;
 
 #[test]
 fn every_stop_keeps_the_newest(rt: HostRuntime) -> Result<(), Fail> {
-    let first = defs_of(rt.alloc(), FIRST)?;
-    let second = defs_of(rt.alloc(), SECOND)?;
+    let first = defs_of(rt.alloc(), &[NOTES, FIRST])?;
+    let second = defs_of(rt.alloc(), &[NOTES, SECOND])?;
     for stop in 0..CALLS {
         assert!(rt;
             keeps_at_stop(rt.alloc(), stop, &first, &second)?,
@@ -158,8 +164,8 @@ fn keeps_at_failure(
 
 #[test]
 fn every_failed_call_keeps_the_newest(rt: HostRuntime) -> Result<(), Fail> {
-    let first = defs_of(rt.alloc(), FIRST)?;
-    let second = defs_of(rt.alloc(), SECOND)?;
+    let first = defs_of(rt.alloc(), &[NOTES, FIRST])?;
+    let second = defs_of(rt.alloc(), &[NOTES, SECOND])?;
     for call in 0..CALLS {
         assert!(rt;
             keeps_at_failure(rt.alloc(), call, &first, &second)?,
@@ -171,8 +177,8 @@ fn every_failed_call_keeps_the_newest(rt: HostRuntime) -> Result<(), Fail> {
 
 #[test]
 fn without_a_fault_both_are_sure(rt: HostRuntime) -> Result<(), Fail> {
-    let first = defs_of(rt.alloc(), FIRST)?;
-    let second = defs_of(rt.alloc(), SECOND)?;
+    let first = defs_of(rt.alloc(), &[NOTES, FIRST])?;
+    let second = defs_of(rt.alloc(), &[NOTES, SECOND])?;
     let mut site = MemorySite::new(rt.alloc(), &[])?;
     assert!(rt; write_two(rt.alloc(), &mut site, &first, &second)? == 2);
     assert!(rt; newest_number(rt.alloc(), &mut site, &second) == Some(2));
@@ -224,7 +230,7 @@ fn comes_back(
 
 #[test]
 fn bytes_are_those_of_the_format(rt: HostRuntime) -> Result<(), Fail> {
-    let defs = defs_of(rt.alloc(), FIRST)?;
+    let defs = defs_of(rt.alloc(), &[NOTES, FIRST])?;
     let none = Lasts::new(rt.alloc())?;
     for (lasts, format, bytes) in [(None, 1, IN_FORMAT_ONE), (Some(&none), 2, IN_FORMAT_TWO)] {
         assert!(rt; comes_back(rt.alloc(), &defs, lasts, format, bytes)?);

@@ -3,9 +3,10 @@
 ghost use Rattle.fp_model.specs.WellFormed.{IsMsdbDef};
 ghost use Rattle.std.specs.List.{AllByRecursion};
 
-use crate::rows::{CROSSWISE, OVERDRAWN, Row, WAITS_FOR_A_HOLD};
-use crate::sample::{SCRIPTS, Setting, definitions, exits};
-use core_runs::{Fault, Task, databases_text, find, log_text, run};
+use crate::core_rows::{CROSSWISE, OVERDRAWN, Row, SAMPLE, SMALL_GROUPS, WAITS_FOR_A_HOLD};
+use crate::steps::count_lines;
+use crate::systems::{definitions, exits, shown};
+use core_runs::{Fault, databases_text, find, log_text, run};
 use fp_exits::Exits;
 use fp_model::{Bytes, Defs};
 use fp_site::{MemorySite, Snapshot};
@@ -13,43 +14,43 @@ use std::alloc::{AllocError, Global};
 use std::test::Fail;
 
 /// A run of two transactions that is stopped.
-#[derive(Clone, Copy)]
 struct Stopped {
     row: Row,
-    log_group: u32,
+    /// What the definitions say before the databases, in place of what the row has.
+    head: &'static str,
     /// The balance of the first account behind no entry, one and two.
-    balances: [u32; 3],
+    balances: [i32; 3],
 }
 
 static STOPPED: [Stopped; 6] = [
     Stopped {
         row: OVERDRAWN,
-        log_group: 100,
+        head: SAMPLE,
         balances: [100, 40, 40],
     },
     Stopped {
         row: OVERDRAWN,
-        log_group: 1,
+        head: SMALL_GROUPS,
         balances: [100, 40, 40],
     },
     Stopped {
         row: WAITS_FOR_A_HOLD,
-        log_group: 100,
+        head: SAMPLE,
         balances: [100, 500, 510],
     },
     Stopped {
         row: WAITS_FOR_A_HOLD,
-        log_group: 1,
+        head: SMALL_GROUPS,
         balances: [100, 500, 510],
     },
     Stopped {
         row: CROSSWISE,
-        log_group: 100,
+        head: SAMPLE,
         balances: [100, 100, 100],
     },
     Stopped {
         row: CROSSWISE,
-        log_group: 1,
+        head: SMALL_GROUPS,
         balances: [100, 100, 100],
     },
 ];
@@ -62,8 +63,8 @@ const MOST_CALLS: u64 = 40;
 struct Stand {
     alloc: Global,
     exits: Exits,
-    definitions: String,
-    stopped: Stopped,
+    definitions: Bytes,
+    stopped: &'static Stopped,
     // The log where nothing fails.
     groups: Bytes,
 }
@@ -77,14 +78,10 @@ struct Left {
 }
 
 impl Stand {
-    fn new(alloc: Global, stopped: Stopped) -> Result<Stand, Fault> {
+    fn new(alloc: Global, stopped: &'static Stopped) -> Result<Stand, Fault> {
         let exits = exits(alloc)?;
-        let setting = Setting {
-            log_group: stopped.log_group,
-            ..stopped.row.setting
-        };
-        let definitions = definitions(alloc, &setting)?;
-        let groups = find(alloc, &task_of(&definitions, &stopped.row), &exits)?.groups;
+        let definitions = definitions(alloc, stopped.head)?;
+        let groups = find(alloc, &stopped.row.task(&definitions), &exits)?.groups;
         Ok(Stand {
             alloc,
             exits,
@@ -101,7 +98,7 @@ impl Stand {
         } else {
             MemorySite::stopping(self.alloc, call)?
         };
-        let task = task_of(&self.definitions, &self.stopped.row);
+        let task = self.stopped.row.task(&self.definitions);
         let (made, done) = match run(self.alloc, &task, &self.exits, &mut site) {
             Ok(_) => (true, true),
             Err(Fault::Stopped(_)) => (true, false),
@@ -120,12 +117,12 @@ impl Stand {
         let is_first = row.sent.as_bytes().starts_with(snapshot.sent.as_slice());
         let answered = count_lines(snapshot.sent.as_slice());
         let mut site = MemorySite::from_snapshot(self.alloc, snapshot, &[])?;
-        let log = match log_text(self.alloc, row.setting.numbered, &mut site) {
+        let log = match log_text(self.alloc, row.numbered, &mut site) {
             Err(Fault::NoLog) => return Ok(!made && answered == 0),
             log => log?,
         };
         let entries = entries_in(log.as_slice());
-        let found = databases_text(self.alloc, defs, row.setting.numbered, &mut site)?;
+        let found = databases_text(self.alloc, defs, row.numbered, &mut site)?;
         Ok(
             is_first
                 && answered <= entries
@@ -141,34 +138,8 @@ impl Stand {
             1 => self.stopped.balances[1],
             _ => self.stopped.balances[2],
         };
-        format!(in self.alloc;
-            "msdb ACCTS 2\n\x20 ACCT=A001 BAL={balance}\n\x20 ACCT=A002 BAL=50\nmsdb TELLERS 1\n\x20 TNO=T001 CASH=0\n"
-        )
+        shown(self.alloc, (balance, 50, 1))
     }
-}
-
-// What a run of a row is given.
-fn task_of<'a>(definitions: &'a String, row: &Row) -> Task<'a> {
-    Task {
-        definitions: definitions.as_bytes(),
-        scripts: SCRIPTS.as_bytes(),
-        schedule: row.schedule.as_bytes(),
-        messages: row.messages,
-        numbered: row.setting.numbered,
-    }
-}
-
-// How many lines of a text have some bytes, the last without a newline too.
-fn count_lines(text: &[u8]) -> usize {
-    let mut count: usize = 0;
-    let mut begins = true;
-    for byte in text {
-        if begins && *byte != b'\n' {
-            count = count.saturating_add(1);
-        }
-        begins = *byte == b'\n';
-    }
-    count
 }
 
 // How many entries a text of a log has.
@@ -193,8 +164,8 @@ fn is_torn(sent: &[u8], replies: &[u8]) -> bool {
 #[test]
 fn a_restart_has_what_was_answered(rt: HostRuntime) -> Result<(), Fail> {
     for (place, stopped) in STOPPED.iter().enumerate() {
-        let stand = Stand::new(rt.alloc(), *stopped)?;
-        let defs = core_runs::definitions(rt.alloc(), stand.definitions.as_bytes(), &stand.exits)?;
+        let stand = Stand::new(rt.alloc(), stopped)?;
+        let defs = core_runs::definitions(rt.alloc(), stand.definitions.as_slice(), &stand.exits)?;
         for number in 0..2 * MOST_CALLS {
             let Left { site, made, .. } = stand.fail(number / 2, number % 2 == 0)?;
             // Behind the last call nothing fails.
@@ -229,7 +200,7 @@ fn count_torn(stand: &Stand) -> Result<Option<u64>, Fault> {
 #[test]
 fn each_reply_line_is_one_send(rt: HostRuntime) -> Result<(), Fail> {
     for stopped in &STOPPED {
-        let stand = Stand::new(rt.alloc(), *stopped)?;
+        let stand = Stand::new(rt.alloc(), stopped)?;
         assert!(rt; count_torn(&stand)? == Some(2));
         assert!(rt; stand.fail(MOST_CALLS, false)?.done);
     }

@@ -3,7 +3,7 @@ use fp_core::Did;
 use std::alloc::{AllocError, Global};
 
 /// A word for what each step did, with a blank between two.
-pub fn dids_text(alloc: Global, dids: &[Did]) -> Result<String, AllocError> {
+pub(crate) fn dids_text(alloc: Global, dids: &[Did]) -> Result<String, AllocError> {
     let mut text = String::new(alloc);
     for did in dids {
         tell_did(alloc, &mut text, *did)?;

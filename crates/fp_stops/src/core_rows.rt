@@ -1,71 +1,76 @@
 //! Short runs, each worked out by hand from the table of turns: what each event does, what is sent, and what the log
 //! and the databases hold then.
-use crate::sample::{SCRIPTS, Setting, definitions, exits};
+use crate::systems::{Balances, SCRIPTS, definitions, exits, shown};
 use crate::telling::dids_text;
 use core_runs::{Fault, Found, Task, find};
+use fp_model::Bytes;
 use std::alloc::{AllocError, Global};
 use std::test::Fail;
 
 /// A run and what comes of it.
-#[derive(Clone, Copy)]
-pub struct Row {
-    pub setting: Setting,
-    pub schedule: &'static str,
-    pub messages: &'static [u8],
+pub(crate) struct Row {
+    /// What the definitions say before the databases.
+    pub(crate) head: &'static str,
+    /// Whether the log is of format 2, in which a message may have a number.
+    pub(crate) numbered: bool,
+    schedule: &'static str,
+    messages: &'static [u8],
     /// What each event of the schedule does.
     dids: &'static str,
     /// How many events there are up to the first that sends something.
     quiet: usize,
-    pub sent: &'static str,
+    pub(crate) sent: &'static str,
     log: &'static str,
-    databases: &'static str,
+    left: Balances,
+}
+
+impl Row {
+    /// What its run is given besides the definitions.
+    pub(crate) fn task<'a>(&self, definitions: &'a Bytes) -> Task<'a> {
+        Task {
+            definitions: definitions.as_slice(),
+            scripts: SCRIPTS.as_bytes(),
+            schedule: self.schedule.as_bytes(),
+            messages: self.messages,
+            numbered: self.numbered,
+        }
+    }
 }
 
 /// Two regions of one group, as in the sample.
-const SAMPLE: Setting = Setting {
-    regions: "1, 1",
-    log_group: 100,
-    tries: 0,
-    numbered: false,
-};
+pub(crate) const SAMPLE: &str = "regions = [1, 1]
+router = \"FOLD\"
+log_group = 100
+tries = 0
+";
 
 /// In which a transaction is begun again once.
-const AGAIN: Setting = Setting {
-    regions: "1, 1",
-    log_group: 100,
-    tries: 1,
-    numbered: false,
-};
+const AGAIN: &str = "regions = [1, 1]
+router = \"FOLD\"
+log_group = 100
+tries = 1
+";
 
 /// In which each entry is a group.
-const SMALL_GROUPS: Setting = Setting {
-    regions: "1, 1",
-    log_group: 1,
-    tries: 0,
-    numbered: false,
-};
+pub(crate) const SMALL_GROUPS: &str = "regions = [1, 1]
+router = \"FOLD\"
+log_group = 1
+tries = 0
+";
 
 /// In which each region has a group of its own.
-const TWO_GROUPS: Setting = Setting {
-    regions: "1, 2",
-    log_group: 100,
-    tries: 0,
-    numbered: false,
-};
-
-/// The sample, with a log of format 2.
-const NUMBERED: Setting = Setting {
-    regions: "1, 1",
-    log_group: 100,
-    tries: 0,
-    numbered: true,
-};
+const TWO_GROUPS: &str = "regions = [1, 2]
+router = \"FOLD\"
+log_group = 100
+tries = 0
+";
 
 // ---- withdrawals and deposits side by side
 
 /// Both withdrawals pass the test of their call, and the second fails as it is tested again.
-pub const OVERDRAWN: Row = Row {
-    setting: SAMPLE,
+pub(crate) const OVERDRAWN: Row = Row {
+    head: SAMPLE,
+    numbered: false,
     schedule: "IN IN R1 R2 R1 R2 R1 R1 R2 R2 LOG",
     messages: b"T1 WDRAW A001 60\nT2 WDRAW A001 60\n",
     dids: "queued queued took took answered answered gained committed gained refused sealed/2",
@@ -74,12 +79,13 @@ pub const OVERDRAWN: Row = Row {
     log: "group 0 entries 2\n\
 0 from 0 notes 0 DONE T1 WDRAW A001 60 => PAID 60\n\
 1 from 0 notes 0 VERIFY 0.0 0000040c T2 WDRAW A001 60 => -\n",
-    databases: "msdb ACCTS 2\n\x20 ACCT=A001 BAL=40\n\x20 ACCT=A002 BAL=50\nmsdb TELLERS 1\n\x20 TNO=T001 CASH=0\n",
+    left: (40, 50, 1),
 };
 
 /// The same, begun again: now the second finds too little at its call.
 const OVERDRAWN_AGAIN: Row = Row {
-    setting: AGAIN,
+    head: AGAIN,
+    numbered: false,
     schedule: "IN IN R1 R2 R1 R2 R1 R1 R2 R2 LOG",
     messages: b"T1 WDRAW A001 60\nT2 WDRAW A001 60\n",
     dids: "queued queued took took answered answered gained committed gained retried sealed/1",
@@ -89,12 +95,13 @@ const OVERDRAWN_AGAIN: Row = Row {
 0 from 0 notes 0 DONE T1 WDRAW A001 60 => PAID 60\n\
 group 1 entries 1\n\
 1 from 1 notes 1 ROLB 7 T2 WDRAW A001 60 => -\n",
-    databases: "msdb ACCTS 2\n\x20 ACCT=A001 BAL=40\n\x20 ACCT=A002 BAL=50\nmsdb TELLERS 1\n\x20 TNO=T001 CASH=0\n",
+    left: (40, 50, 1),
 };
 
 /// Both deposits add to what stands.
 const BOTH_ADD: Row = Row {
-    setting: SAMPLE,
+    head: SAMPLE,
+    numbered: false,
     schedule: "IN IN R1 R2 R1 R2 R1 R1 R2 R2 LOG",
     messages: b"T1 DEPOSIT A001 10\nT2 DEPOSIT A001 20\n",
     dids: "queued queued took took answered answered gained committed gained committed sealed/2",
@@ -103,12 +110,13 @@ const BOTH_ADD: Row = Row {
     log: "group 0 entries 2\n\
 0 from 0 notes 0 DONE T1 DEPOSIT A001 10 => NEW\n\
 1 from 0 notes 0 DONE T2 DEPOSIT A001 20 => NEW\n",
-    databases: "msdb ACCTS 2\n\x20 ACCT=A001 BAL=130\n\x20 ACCT=A002 BAL=50\nmsdb TELLERS 1\n\x20 TNO=T001 CASH=0\n",
+    left: (130, 50, 1),
 };
 
 /// The deposit waits until the segment isn't held any more.
-pub const WAITS_FOR_A_HOLD: Row = Row {
-    setting: SAMPLE,
+pub(crate) const WAITS_FOR_A_HOLD: Row = Row {
+    head: SAMPLE,
+    numbered: false,
     schedule: "IN IN R1 R1 R1 R2 R2 R2 R1 R1 R2 R2 LOG",
     messages: b"T1 SETBAL A001 500\nT2 DEPOSIT A001 10\n",
     dids: "queued queued took gained answered took answered waited answered committed gained committed sealed/2",
@@ -117,12 +125,13 @@ pub const WAITS_FOR_A_HOLD: Row = Row {
     log: "group 0 entries 2\n\
 0 from 0 notes - DONE T1 SETBAL A001 500 => SET\n\
 1 from 0 notes 0 DONE T2 DEPOSIT A001 10 => NEW\n",
-    databases: "msdb ACCTS 2\n\x20 ACCT=A001 BAL=510\n\x20 ACCT=A002 BAL=50\nmsdb TELLERS 1\n\x20 TNO=T001 CASH=0\n",
+    left: (510, 50, 1),
 };
 
 /// A sum out of the field's range: at the sync point, and then at the call.
 const OVERFLOW: Row = Row {
-    setting: SAMPLE,
+    head: SAMPLE,
+    numbered: false,
     schedule: "IN R1 R1 R1 R1 R1 IN IN R1 R2 R1 R2 R1 R1 R2 R2 LOG IN R1 R1 R1 LOG",
     messages: b"T3 SETBAL A001 9999990\nT1 DEPOSIT A001 9\nT2 DEPOSIT A001 9\nT1 DEPOSIT A001 1\n",
     dids: "queued took gained answered answered committed \
@@ -136,14 +145,15 @@ queued took answered refused sealed/1",
 2 from 1 notes 1 VERIFY 0.0 9999999c T2 DEPOSIT A001 9 => -\n\
 group 1 entries 1\n\
 3 from 3 notes 3 ROLB 1 T1 DEPOSIT A001 1 => -\n",
-    databases: "msdb ACCTS 2\n\x20 ACCT=A001 BAL=9999999\n\x20 ACCT=A002 BAL=50\nmsdb TELLERS 1\n\x20 TNO=T001 CASH=0\n",
+    left: (9999999, 50, 1),
 };
 
 // ---- what a look sees
 
 /// An answer that was given before a commit, and leaves behind it.
 const LOOKS_BEFORE: Row = Row {
-    setting: SAMPLE,
+    head: SAMPLE,
+    numbered: false,
     schedule: "IN R1 R1 R1 R1 IN R2 R2 IN R1 R1 R1 R1 R2 LOG",
     messages: b"T1 DEPOSIT A001 10\nT2 ASK A001\nT3 DEPOSIT A001 20\n",
     dids: "queued took answered gained committed queued took answered \
@@ -154,12 +164,13 @@ queued took answered gained committed committed sealed/3",
 0 from 0 notes 0 DONE T1 DEPOSIT A001 10 => NEW\n\
 1 from 1 notes 1 DONE T3 DEPOSIT A001 20 => NEW\n\
 2 from 1 notes 1 DONE T2 ASK A001 => 110\n",
-    databases: "msdb ACCTS 2\n\x20 ACCT=A001 BAL=130\n\x20 ACCT=A002 BAL=50\nmsdb TELLERS 1\n\x20 TNO=T001 CASH=0\n",
+    left: (130, 50, 1),
 };
 
 /// One that was given behind it.
 const LOOKS_BEHIND: Row = Row {
-    setting: SAMPLE,
+    head: SAMPLE,
+    numbered: false,
     schedule: "IN R1 R1 R1 R1 IN R2 IN R1 R1 R1 R1 R2 R2 LOG",
     messages: b"T1 DEPOSIT A001 10\nT2 ASK A001\nT3 DEPOSIT A001 20\n",
     dids: "queued took answered gained committed queued took \
@@ -170,14 +181,15 @@ queued took answered gained committed answered committed sealed/3",
 0 from 0 notes 0 DONE T1 DEPOSIT A001 10 => NEW\n\
 1 from 1 notes 1 DONE T3 DEPOSIT A001 20 => NEW\n\
 2 from 1 notes 2 DONE T2 ASK A001 => 130\n",
-    databases: "msdb ACCTS 2\n\x20 ACCT=A001 BAL=130\n\x20 ACCT=A002 BAL=50\nmsdb TELLERS 1\n\x20 TNO=T001 CASH=0\n",
+    left: (130, 50, 1),
 };
 
 // ---- groups and lines that wait
 
 /// Four entries leave together.
 const ONE_GROUP: Row = Row {
-    setting: SAMPLE,
+    head: SAMPLE,
+    numbered: false,
     schedule: "IN R1 R1 R1 R1 IN R1 R1 R1 R1 IN R1 R1 R1 R1 IN R1 R1 R1 R1 LOG",
     messages: b"T1 DEPOSIT A001 1\nT2 DEPOSIT A001 2\nT3 DEPOSIT A002 3\nT4 DEPOSIT A001 4",
     dids: "queued took answered gained committed queued took answered gained committed \
@@ -189,13 +201,14 @@ queued took answered gained committed queued took answered gained committed seal
 1 from 1 notes 1 DONE T2 DEPOSIT A001 2 => NEW\n\
 2 from 2 notes 2 DONE T3 DEPOSIT A002 3 => NEW\n\
 3 from 3 notes 3 DONE T4 DEPOSIT A001 4 => NEW\n",
-    databases: "msdb ACCTS 2\n\x20 ACCT=A001 BAL=107\n\x20 ACCT=A002 BAL=53\nmsdb TELLERS 1\n\x20 TNO=T001 CASH=0\n",
+    left: (107, 53, 1),
 };
 
 /// Groups of one entry: LOG seals one, and CKPT all. OUT, a region without a message and a LOG without an entry do
 /// nothing.
 const SMALL: Row = Row {
-    setting: SMALL_GROUPS,
+    head: SMALL_GROUPS,
+    numbered: false,
     schedule: "OUT LOG CKPT R2 IN R1 R1 R1 R1 IN R1 R1 R1 R1 IN R2 R2 R2 LOG CKPT CKPT LOG IN",
     messages: b"T1 DEPOSIT A001 1\nT2 DEPOSIT A001 2\nT3 ASK A009\n",
     dids: "nothing nothing nothing nothing queued took answered gained committed \
@@ -209,12 +222,13 @@ group 1 entries 1\n\
 1 from 1 notes 1 DONE T2 DEPOSIT A001 2 => NEW\n\
 group 2 entries 1\n\
 2 from 2 notes 2 DONE T3 ASK A009 => NONE\n",
-    databases: "msdb ACCTS 2\n\x20 ACCT=A001 BAL=103\n\x20 ACCT=A002 BAL=50\nmsdb TELLERS 1\n\x20 TNO=T001 CASH=0\n",
+    left: (103, 50, 1),
 };
 
 /// A line waits until its terminal was answered.
 const HELD: Row = Row {
-    setting: SAMPLE,
+    head: SAMPLE,
+    numbered: false,
     schedule: "IN IN R1 R1 R1 R1 IN LOG IN",
     messages: b"T1 DEPOSIT A001 10\nT1 DEPOSIT A001 20\n",
     dids: "queued held took answered gained committed held sealed/1 queued",
@@ -224,12 +238,13 @@ const HELD: Row = Row {
 0 from 0 notes 0 DONE T1 DEPOSIT A001 10 => NEW\n\
 group 1 entries 1\n\
 1 from 1 notes 1 DONE T1 DEPOSIT A001 20 => NEW\n",
-    databases: "msdb ACCTS 2\n\x20 ACCT=A001 BAL=130\n\x20 ACCT=A002 BAL=50\nmsdb TELLERS 1\n\x20 TNO=T001 CASH=0\n",
+    left: (130, 50, 1),
 };
 
 /// Lines that are no messages, or name no script, are refused, and stop nothing. One of them waits for its terminal.
 const UNKNOWN: Row = Row {
-    setting: SAMPLE,
+    head: SAMPLE,
+    numbered: false,
     schedule: "IN IN IN IN LOG IN IN LOG",
     messages: b"T1 NOSUCH A001\n\nT2\nT1 DEPOSIT A001 \x80\n9 ASK\nT3 ASK A001\n",
     dids: "refused refused refused held sealed/3 refused refused sealed/2",
@@ -244,14 +259,15 @@ group 1 entries 2\n\
 4 from 4 notes - UNKNOWN 9 ASK => -\n\
 group 2 entries 1\n\
 5 from 5 notes 5 DONE T3 ASK A001 => 100\n",
-    databases: "msdb ACCTS 2\n\x20 ACCT=A001 BAL=100\n\x20 ACCT=A002 BAL=50\nmsdb TELLERS 1\n\x20 TNO=T001 CASH=0\n",
+    left: (100, 50, 1),
 };
 
 // ---- locks
 
 /// Each holds what the other needs: the second is refused, and the first goes on.
-pub const CROSSWISE: Row = Row {
-    setting: SAMPLE,
+pub(crate) const CROSSWISE: Row = Row {
+    head: SAMPLE,
+    numbered: false,
     schedule: "IN IN R1 R1 R2 R2 R1 R2 R1 R2 R1 R1 R1 LOG",
     messages: b"T1 TWOACC A001 A002\nT2 TWOACC A002 A001\n",
     dids: "queued queued took gained took gained answered answered waited refused \
@@ -261,12 +277,13 @@ gained answered committed sealed/2",
     log: "group 0 entries 2\n\
 0 from 0 notes - DEADLOCK 2,1 T2 TWOACC A002 A001 => -\n\
 1 from 0 notes - DONE T1 TWOACC A001 A002 => BOTH\n",
-    databases: "msdb ACCTS 2\n\x20 ACCT=A001 BAL=100\n\x20 ACCT=A002 BAL=50\nmsdb TELLERS 1\n\x20 TNO=T001 CASH=0\n",
+    left: (100, 50, 1),
 };
 
 /// The same, begun again: both are done.
 const CROSSWISE_AGAIN: Row = Row {
-    setting: AGAIN,
+    head: AGAIN,
+    numbered: false,
     schedule: "IN IN R1 R1 R2 R2 R1 R2 R1 R2 R1 R1 R1 LOG",
     messages: b"T1 TWOACC A001 A002\nT2 TWOACC A002 A001\n",
     dids: "queued queued took gained took gained answered answered waited retried \
@@ -277,12 +294,13 @@ gained answered committed sealed/1",
 0 from 0 notes - DONE T1 TWOACC A001 A002 => BOTH\n\
 group 1 entries 1\n\
 1 from 0 notes - DONE T2 TWOACC A002 A001 => BOTH\n",
-    databases: "msdb ACCTS 2\n\x20 ACCT=A001 BAL=100\n\x20 ACCT=A002 BAL=50\nmsdb TELLERS 1\n\x20 TNO=T001 CASH=0\n",
+    left: (100, 50, 1),
 };
 
 /// An insert needs its key, also one that isn't there.
 const INSERTS: Row = Row {
-    setting: SAMPLE,
+    head: SAMPLE,
+    numbered: false,
     schedule: "IN IN R1 R1 R2 R2 R1 R2 R1 R1 R2 R2 R2 R2 LOG IN R1 R1 R1 R1 R1 LOG",
     messages: b"T1 HIRE T009\nT2 HIRE T009\nT3 HIRE T001\n",
     dids: "queued queued took gained took waited answered waited answered committed \
@@ -294,12 +312,13 @@ gained answered answered committed sealed/2 queued took gained answered answered
 1 from 0 notes - DONE T2 HIRE T009 => II/ II\n\
 group 1 entries 1\n\
 2 from 2 notes - DONE T3 HIRE T001 => II/ II\n",
-    databases: "msdb ACCTS 2\n\x20 ACCT=A001 BAL=100\n\x20 ACCT=A002 BAL=50\nmsdb TELLERS 2\n\x20 TNO=T001 CASH=0\n\x20 TNO=T009 CASH=0\n",
+    left: (100, 50, 2),
 };
 
 /// A region takes messages of its own group alone: deposits go to the first, withdrawals to the second.
 const ROUTED: Row = Row {
-    setting: TWO_GROUPS,
+    head: TWO_GROUPS,
+    numbered: false,
     schedule: "IN R1 R2 IN R2 R1 R2 R2 R1 R1 R2 R2 R1 LOG",
     messages: b"T1 WDRAW A001 60\nT2 DEPOSIT A001 5\n",
     dids: "queued nothing took queued answered took gained committed answered gained nothing nothing committed sealed/2",
@@ -308,12 +327,13 @@ const ROUTED: Row = Row {
     log: "group 0 entries 2\n\
 0 from 0 notes 0 DONE T1 WDRAW A001 60 => PAID 60\n\
 1 from 0 notes 1 DONE T2 DEPOSIT A001 5 => NEW\n",
-    databases: "msdb ACCTS 2\n\x20 ACCT=A001 BAL=45\n\x20 ACCT=A002 BAL=50\nmsdb TELLERS 1\n\x20 TNO=T001 CASH=0\n",
+    left: (45, 50, 1),
 };
 
 /// The drain alone: a round is IN, each region, LOG.
 const DRAINED: Row = Row {
-    setting: SAMPLE,
+    head: SAMPLE,
+    numbered: false,
     schedule: "",
     messages: b"T1 DEPOSIT A001 1\nT2 WDRAW A002 60\nT3 ASK A001\n",
     dids: "",
@@ -324,7 +344,7 @@ const DRAINED: Row = Row {
 1 from 0 notes 0 ROLB 7 T2 WDRAW A002 60 => -\n\
 group 1 entries 1\n\
 2 from 2 notes 2 DONE T3 ASK A001 => 101\n",
-    databases: "msdb ACCTS 2\n\x20 ACCT=A001 BAL=101\n\x20 ACCT=A002 BAL=50\nmsdb TELLERS 1\n\x20 TNO=T001 CASH=0\n",
+    left: (101, 50, 1),
 };
 
 // ---- message numbers
@@ -332,7 +352,8 @@ group 1 entries 1\n\
 /// The line of the last number gets the same reply and runs nothing, a lower number is old, and a line without a number
 /// runs each time.
 const SENT_AGAIN: Row = Row {
-    setting: NUMBERED,
+    head: SAMPLE,
+    numbered: true,
     schedule: "IN R1 R1 R1 R1 LOG IN LOG IN R1 R1 R1 LOG IN LOG IN LOG IN R1 R1 R1 R1 LOG IN LOG",
     messages: b"T1 1 DEPOSIT A001 10\nT1 1 DEPOSIT A001 10\nT1 3 ASK A001\nT1 2 ASK A001\nT1 3 ASK A001\n\
 T1 DEPOSIT A001 5\nT1 3 ASK A001\n",
@@ -354,13 +375,14 @@ group 5 entries 1\n\
 5 from 5 notes 5 DONE T1 DEPOSIT A001 5 => NEW\n\
 group 6 entries 1\n\
 6 from 6 notes - REPEAT T1 3 ASK A001 => -\n",
-    databases: "msdb ACCTS 2\n\x20 ACCT=A001 BAL=115\n\x20 ACCT=A002 BAL=50\nmsdb TELLERS 1\n\x20 TNO=T001 CASH=0\n",
+    left: (115, 50, 1),
 };
 
 /// A refusal uses its number too: a transaction that isn't known, and one that rolls back. Each terminal has numbers of
 /// its own.
 const REFUSED_AGAIN: Row = Row {
-    setting: NUMBERED,
+    head: SAMPLE,
+    numbered: true,
     schedule: "IN IN IN R1 R2 R1 R1 R2 R2 LOG IN IN IN LOG IN IN IN LOG",
     messages: b"T1 7 NOSUCH A001\nT2 7 WDRAW A001 101\nT3 8 ASK A001\nT1 7 ASK A001\nT2 7 ASK A001\nT3 7 ASK A001\n\
 T1 6 ASK A001\nT2 6 ASK A001\nT3 8 NOSUCH\n",
@@ -381,12 +403,13 @@ group 2 entries 3\n\
 6 from 6 notes - OLD 7 T1 6 ASK A001 => -\n\
 7 from 7 notes - OLD 7 T2 6 ASK A001 => -\n\
 8 from 8 notes - REPEAT T3 8 NOSUCH => -\n",
-    databases: "msdb ACCTS 2\n\x20 ACCT=A001 BAL=100\n\x20 ACCT=A002 BAL=50\nmsdb TELLERS 1\n\x20 TNO=T001 CASH=0\n",
+    left: (100, 50, 1),
 };
 
 /// So does a refusal with a deadlock.
 const CROSSED_AGAIN: Row = Row {
-    setting: NUMBERED,
+    head: SAMPLE,
+    numbered: true,
     schedule: "IN IN R1 R1 R2 R2 R1 R2 R1 R2 R1 R1 R1 LOG IN IN LOG",
     messages: b"T1 1 TWOACC A001 A002\nT2 1 TWOACC A002 A001\nT2 1 TWOACC A002 A001\nT1 1 TWOACC A001 A002\n",
     dids: "queued queued took gained took gained answered answered waited refused \
@@ -399,12 +422,13 @@ gained answered committed sealed/2 refused refused sealed/2",
 group 1 entries 2\n\
 2 from 2 notes - REPEAT T2 1 TWOACC A002 A001 => -\n\
 3 from 3 notes - REPEAT T1 1 TWOACC A001 A002 => -\n",
-    databases: "msdb ACCTS 2\n\x20 ACCT=A001 BAL=100\n\x20 ACCT=A002 BAL=50\nmsdb TELLERS 1\n\x20 TNO=T001 CASH=0\n",
+    left: (100, 50, 1),
 };
 
 /// In a log of format 1 no line has a number: such a line names no script.
 const WITHOUT_NUMBERS: Row = Row {
-    setting: SAMPLE,
+    head: SAMPLE,
+    numbered: false,
     schedule: "IN LOG IN LOG",
     messages: b"T1 1 ASK A001\nT1 1 ASK A001\n",
     dids: "refused sealed/1 refused sealed/1",
@@ -414,7 +438,7 @@ const WITHOUT_NUMBERS: Row = Row {
 0 from 0 notes - UNKNOWN T1 1 ASK A001 => -\n\
 group 1 entries 1\n\
 1 from 1 notes - UNKNOWN T1 1 ASK A001 => -\n",
-    databases: "msdb ACCTS 2\n\x20 ACCT=A001 BAL=100\n\x20 ACCT=A002 BAL=50\nmsdb TELLERS 1\n\x20 TNO=T001 CASH=0\n",
+    left: (100, 50, 1),
 };
 
 static ROWS: [Row; 20] = [
@@ -442,15 +466,8 @@ static ROWS: [Row; 20] = [
 
 // What is found of the run of a row.
 fn found_of(alloc: Global, row: &Row) -> Result<Found, Fault> {
-    let definitions = definitions(alloc, &row.setting)?;
-    let task = Task {
-        definitions: definitions.as_bytes(),
-        scripts: SCRIPTS.as_bytes(),
-        schedule: row.schedule.as_bytes(),
-        messages: row.messages,
-        numbered: row.setting.numbered,
-    };
-    find(alloc, &task, &exits(alloc)?)
+    let definitions = definitions(alloc, row.head)?;
+    find(alloc, &row.task(&definitions), &exits(alloc)?)
 }
 
 // The first part of what was found that isn't as wanted.
@@ -465,7 +482,8 @@ fn first_difference(alloc: Global, found: &Found, row: &Row) -> Result<&'static 
     if found.groups.as_slice() != row.log.as_bytes() {
         return Ok("log");
     }
-    if found.databases.as_slice() != row.databases.as_bytes() {
+    let databases = shown(alloc, row.left)?;
+    if found.databases.as_slice() != databases.as_bytes() {
         return Ok("databases");
     }
     if found.quiet != row.quiet {

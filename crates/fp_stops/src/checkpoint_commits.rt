@@ -10,8 +10,8 @@ ghost use Rattle.std.specs.List.{AllByRecursion};
 ghost use Rattle.std.specs.Option.{option_copied};
 ghost use Rattle.std.specs.Prelude.{◌≡◌, ◌<◌, ◌^◌, IfOk, List as ListOf, Some, length, slice_get};
 
-use crate::samples::{LARGE, defs_of};
-use crate::stops::prepare;
+use crate::checkpoint_stops::prepare;
+use crate::systems::defs_of;
 use balancing::Lasts;
 use fp_model::{Bytes, Deferred, Defs, List, MsdbDef, key_length};
 use fp_site::MemorySite;
@@ -19,6 +19,14 @@ use msdb_checkpoint::{Checkpoints, Loaded};
 use msdb_store::{MsdbStore, VerifyFault};
 use std::alloc::{AllocError, Global};
 use std::test::Fail;
+
+/// A database with segments of 1,000 bytes, without segments at the start.
+const LARGE: &str = "regions = [1]
+router = \"FOLD\"
+[[msdb]]
+name = \"LARGE\"
+fields = [[\"KEY\", \"C\", 3], [\"A\", \"C\", 249], [\"B\", \"C\", 250], [\"C\", \"C\", 250], [\"D\", \"C\", 248]]
+";
 
 /// How many keys there are.
 const KEYS: u8 = 150;
@@ -29,12 +37,17 @@ struct Plain([u8; 150]);
 
 // ---- calls
 
+/// The three digits of a key.
+fn digits(key: u8) -> [u8; 3] {
+    [b'0' + key / 100, b'0' + key / 10 % 10, b'0' + key % 10]
+}
+
 /// So many bytes: the three digits of a key, and another byte behind them.
 fn filled(alloc: Global, count: usize, key: u8, fill: u8) -> Result<Bytes, AllocError>
     ensures { IfOk result (λ bytes. length bytes ≡ count) }
 {
     let mut bytes = vec![in alloc; fill; count]?;
-    let digits = [b'0' + key / 100, b'0' + key / 10 % 10, b'0' + key % 10];
+    let digits = digits(key);
     for (place, digit) in digits.iter().enumerate() {
         if place < bytes.len() {
             bytes[place] = *digit;
@@ -152,7 +165,7 @@ fn is_as_noted(loaded: &Loaded, format: u8, number: u64, plain: &Plain) -> bool 
 
 /// Whether a segment has this key and is filled with this byte.
 fn is_segment(segment: &[u8], key: u8, fill: u8) -> bool {
-    let digits = [b'0' + key / 100, b'0' + key / 10 % 10, b'0' + key % 10];
+    let digits = digits(key);
     segment.len() == 1000
         && &segment[..3] == digits.as_slice()
         && segment[3] == fill
@@ -237,7 +250,7 @@ fn each_has_its_own(alloc: Global, defs: &Defs, lasts: Option<&Lasts>) -> Result
 
 #[test]
 fn commits_between_the_steps_come_later(rt: HostRuntime) -> Result<(), Fail> {
-    let defs = defs_of(rt.alloc(), LARGE)?;
+    let defs = defs_of(rt.alloc(), &[LARGE])?;
     let lasts = Lasts::new(rt.alloc())?;
     for lasts in [None, Some(&lasts)] {
         assert!(rt; each_has_its_own(rt.alloc(), &defs, lasts)?);

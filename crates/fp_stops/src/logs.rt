@@ -1,9 +1,9 @@
 //! What is read back of a log after a stop at each call, and logs in use, step by step.
-ghost use Rattle.fp_model.specs.LogText.{FitsEntry, FitsFront, KeepsRules};
+ghost use Rattle.fp_model.specs.LogText.{FitsFront};
 ghost use Rattle.log_groups.specs.Images.{as_front};
 ghost use Rattle.std.specs.Prelude.{◌<◌, IfOk};
 
-use fp_model::{Bytes, Entry, List, Outcome};
+use crate::groups::{front_of, may_be_left, seal_unknown, stopping_copy, unknown};
 use fp_site::{MemorySite, Site, Snapshot};
 use log_groups::{Front, Log, LogFault};
 use std::alloc::{AllocError, Global};
@@ -12,45 +12,13 @@ use std::test::Fail;
 fn front(alloc: Global) -> Result<Front, AllocError>
     ensures { IfOk result (λ front. FitsFront (as_front front)) }
 {
-    let defs = Bytes::from_slice(alloc, b"D")?;
-    Ok(Front {
-        format: 1,
-        defs,
-        scripts: Bytes::new(alloc),
-    })
-}
-
-// An entry that says which it is.
-fn entry(alloc: Global, from: u64) -> Entry
-    ensures rules { KeepsRules result }
-    ensures fits { FitsEntry result }
-{
-    Entry {
-        from,
-        outcome: Outcome::Unknown,
-        line: Bytes::new(alloc),
-        reply: Bytes::new(alloc),
-        notes: List::new(alloc),
-        items: List::new(alloc),
-    }
+    front_of(alloc, b"D", b"")
 }
 
 // Makes a log and seals three groups of an entry each, until a call fails. How many groups were sealed.
 fn seal_three(alloc: Global, site: &mut MemorySite) -> Result<u64, AllocError> {
     let front = front(alloc)?;
-    if Log::make(alloc, site, &front).is_err() {
-        return Ok(0);
-    }
-    let Ok(mut log) = Log::open(alloc, site, &front) else {
-        return Ok(0);
-    };
-    for from in 0..3 {
-        log.append(&entry(alloc, from))?;
-        if log.seal(site, 1).is_err() {
-            return Ok(from);
-        }
-    }
-    Ok(3)
+    seal_unknown(alloc, site, &front, b"", 3)
 }
 
 // A new site with a log of three groups, and how many of them were sealed.
@@ -161,21 +129,9 @@ fn made_anew(alloc: Global, old: &MemorySite, after: u64) -> Result<(MemorySite,
     requires { after < 100 }
 {
     let front = front(alloc)?;
-    let failing = [after, after + 1];
-    let snapshot = old.snapshot_as(0)?;
-    let mut site = MemorySite::from_snapshot(alloc, snapshot, &failing)?;
+    let mut site = stopping_copy(alloc, old, after)?;
     let made = Log::make(alloc, &mut site, &front).is_ok();
     Ok((site, made))
-}
-
-// Whether a making of a log over one with three groups that stopped behind so many calls may leave this.
-fn may_be_left(after: u64, found: Result<Option<u64>, LogFault>) -> bool {
-    match found {
-        Ok(Some(3)) => after < 5,
-        Ok(None) => after >= 3 && after < 9,
-        Ok(Some(0)) => after >= 7,
-        _ => false,
-    }
 }
 
 // A log of three groups is made anew by 9 calls. Until then it is as it was, or isn't open.
@@ -189,8 +145,13 @@ fn a_log_made_anew_is_the_old_one_or_none_or_the_new_one(rt: HostRuntime) -> Res
         assert!(rt; made == (after == 9), "stopped at {after}");
         for choice in 0..8 {
             let found = read_back(alloc, site.snapshot_as(choice)?);
+            let left = (
+                found == Ok(Some(3)),
+                found == Ok(None),
+                found == Ok(Some(0)),
+            );
             assert!(rt;
-                may_be_left(after, found),
+                may_be_left(after, left.0, left.1, left.2),
                 "stopped at {after}, image {choice}"
             );
         }
@@ -280,7 +241,7 @@ impl InUse {
     fn take(&mut self, alloc: Global, step: &Step) -> Result<bool, AllocError> {
         match *step {
             Step::Reserve(bytes) => self.reserve(bytes),
-            Step::Append(place) => Ok(self.log.append(&entry(alloc, place))? == place),
+            Step::Append(place) => Ok(self.log.append(&unknown(alloc, place, b"")?)? == place),
             Step::Uses(bytes) => Ok(self.spare.checked_sub(self.log.spare()) == Some(bytes)),
             Step::Seal(most, count) => Ok(self.seal(most, count)),
             Step::Knows(sealed, count, gate) => Ok(self.knows() == (sealed, count, gate)),

@@ -1,7 +1,7 @@
 use Rattle.std.proofs.Common.{◌<◌, ◌^◌, length}
 use Rattle.std.specs.List.{AllByRecursion}
 use Rattle.msdb_store.specs.Store.{IsOf}
-use Rattle.checkpoint_tests.proofs.commits.each_has_its_own.Given as goal
+use Rattle.fp_stops.proofs.checkpoint_commits.each_has_its_own.Given as goal
 
 -- the store stays one of the definitions
 abbrev pub invariant-loop-key : goal.invariant-loop-key

@@ -3,7 +3,7 @@ use Rattle.std.specs.Prelude.{IsTrue}
 use Rattle.std.specs.List.{AllByRecursion}
 use Rattle.fp_model.specs.LogText.{FitsItem}
 use Rattle.fp_model.specs.ItemTargets.{is_ascending}
-use Rattle.restart_tests.proofs.restarts.entry.Goals as goal
+use Rattle.fp_stops.proofs.restarts.entry.Goals as goal
 
 pub returns-clause-rules : goal.returns-clause-rules
 returns-clause-rules c =
