@@ -122,6 +122,10 @@ fn a_restart_has_what_was_answered(rt: HostRuntime) -> Result<(), Fail> {
                 let kept = is_kept(rt.alloc(), row, site.snapshot_as(choice)?, made)?;
                 assert!(rt; kept, "row {number} stopped at {after}, image {choice}");
             }
+            // Behind the last call nothing fails.
+            if site.faults() == 0 {
+                break;
+            }
         }
     }
     Ok(())
