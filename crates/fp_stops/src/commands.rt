@@ -4,7 +4,7 @@ use fp_defs::DefsFault;
 use fp_model::{Bytes, Kind, Name};
 use fp_schedule::ScheduleFault;
 use fp_site::{MemorySite, Site};
-use fp_source::{MemorySource, Part};
+use fp_source::Part;
 use fp_system::{Status, fault_text};
 use std::alloc::{AllocError, Global};
 use std::test::Fail;
@@ -29,14 +29,13 @@ fn refused(
     schedule: &str,
 ) -> Result<(String, bool), AllocError> {
     let parts = [
-        Bytes::from_slice(alloc, definitions.as_bytes())?,
-        Bytes::from_slice(alloc, scripts.as_bytes())?,
-        Bytes::from_slice(alloc, schedule.as_bytes())?,
-        Bytes::new(alloc),
+        definitions.as_bytes(),
+        scripts.as_bytes(),
+        schedule.as_bytes(),
+        b"".as_slice(),
     ];
-    let mut source = MemorySource::new(alloc, parts, &[])?;
     let mut site = MemorySite::new(alloc, &[])?;
-    let status = status_over(alloc, words, &mut source, &mut site)?;
+    let status = status_over(alloc, words, parts, &[], &mut site)?;
     Ok((said(alloc, &status)?, site.contents(0).is_empty()))
 }
 

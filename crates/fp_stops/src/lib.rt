@@ -1,17 +1,34 @@
-//! Tests over sites in memory: whole runs that are stopped at each call, and what commands answer and send.
+//! Tests over sites in memory: logs, restarts, checkpoints, the turns of the core and whole commands, also with each call
+//! failing and stopped at each call.
 #![tactic(auto)]
 
 #[cfg(test)]
+mod checkpoint_commits;
+#[cfg(test)]
+mod checkpoint_stops;
+#[cfg(test)]
 mod commands;
 #[cfg(test)]
+mod core_rows;
+#[cfg(test)]
+mod core_stops;
+#[cfg(test)]
 mod formats;
+#[cfg(test)]
+mod groups;
+#[cfg(test)]
+mod logs;
+#[cfg(test)]
+mod restarts;
+#[cfg(test)]
+mod run_stops;
 #[cfg(test)]
 mod runs;
 #[cfg(test)]
 mod steps;
 #[cfg(test)]
-mod stops;
-#[cfg(test)]
 mod systems;
+#[cfg(test)]
+mod telling;
 #[cfg(test)]
 mod texts;

@@ -1,38 +1,32 @@
 //! Commands on a site in memory, one after another: what each answers, what it sends, and what the log has then.
-ghost use Rattle.fp_exits.specs.Ranges.{IsRoutable};
-ghost use Rattle.fp_model.specs.Exits.{route};
-ghost use Rattle.std.specs.Prelude.{◌≡◌};
-
-use crate::systems::{EACH_SEALED, System};
-use fp_exits::{Exits, Router, Routing, fold_group};
-use fp_model::{Bytes, Kind, Name};
+use crate::systems::{EACH_SEALED, System, exits};
+use fp_model::Bytes;
 use fp_site::{MemorySite, Site};
 use fp_source::MemorySource;
 use fp_system::{Status, ims};
 use std::alloc::{AllocError, Global};
 
-// What a command answers over parts and a site, where the exits are one router, FOLD.
+// What a command answers over four parts, of which the reads with these numbers fail, and a site.
 pub(crate) fn status_over(
     alloc: Global,
     words: &[&str],
-    source: &mut MemorySource,
+    parts: [&[u8]; 4],
+    failing: &[u64],
     site: &mut MemorySite,
 ) -> Result<Status, AllocError> {
-    let fold: Routing = Box::new(
-        alloc,
-        |tran: &Name, n: u64| -> u64
-            requires { IsRoutable tran.now n }
-            ensures { result ≡ route Kind.Fold n tran.now }
-        { fold_group(tran, n) },
-    )?;
-    let mut routers = Vec::new(alloc);
-    routers.push(Router::new(Kind::Fold, fold))?;
-    let exits = Exits::new(Vec::new(alloc), routers);
+    let parts = [
+        Bytes::from_slice(alloc, parts[0])?,
+        Bytes::from_slice(alloc, parts[1])?,
+        Bytes::from_slice(alloc, parts[2])?,
+        Bytes::from_slice(alloc, parts[3])?,
+    ];
+    let mut source = MemorySource::new(alloc, parts, failing)?;
     let mut texts = Vec::new(alloc);
     for word in words {
         texts.push(word.to_string(alloc)?)?;
     }
-    Ok(ims(alloc, &texts, source, site, &exits))
+    let exits = exits(alloc)?;
+    Ok(ims(alloc, &texts, &mut source, site, &exits))
 }
 
 // What a command reads beside its system: a schedule and messages; the reads with these numbers fail.
@@ -57,15 +51,15 @@ pub(crate) fn run(
     input: Input<'_>,
     site: &mut MemorySite,
 ) -> Result<(Status, Bytes), AllocError> {
+    let definitions = system.definitions(alloc)?;
     let parts = [
-        Bytes::from_slice(alloc, system.definitions.as_bytes())?,
-        Bytes::from_slice(alloc, system.scripts.as_bytes())?,
-        Bytes::from_slice(alloc, input.schedule.as_bytes())?,
-        Bytes::from_slice(alloc, input.messages)?,
+        definitions.as_slice(),
+        system.scripts.as_bytes(),
+        input.schedule.as_bytes(),
+        input.messages,
     ];
-    let mut source = MemorySource::new(alloc, parts, input.failing)?;
     let before = site.sent().len();
-    let status = status_over(alloc, &[command, "D"], &mut source, site)?;
+    let status = status_over(alloc, &[command, "D"], parts, input.failing, site)?;
     let sent = site.sent().get(before..).unwrap_or(b"");
     Ok((status, Bytes::from_slice(alloc, sent)?))
 }
@@ -237,7 +231,7 @@ impl Folder {
     // Whether a command with other scripts finds another's log, which stays.
     fn is_foreign(&mut self, command: &str) -> Result<bool, AllocError> {
         let system = System {
-            definitions: self.system.definitions,
+            head: self.system.head,
             scripts: "TRAN A\nREPLY 'A'\n",
         };
         let before = self.site.contents(0).len();
@@ -254,12 +248,7 @@ impl Folder {
 
     // The log behind its front, and behind the gate of a log without groups.
     fn groups(&self) -> &[u8] {
-        let texts = self
-            .system
-            .definitions
-            .len()
-            .saturating_add(self.system.scripts.len());
-        let front = texts.saturating_add(17);
+        let front = self.system.front_length();
         self.site.contents(0).get(front..).unwrap_or(b"")
     }
 
@@ -337,13 +326,15 @@ fn one_deposit(failing: &[u64]) -> Input<'_> {
     }
 }
 
-// How many newlines a text has.
-fn count_lines(text: &[u8]) -> usize {
-    let mut lines = 0usize;
+// How many lines of a text have some bytes, the last without a newline too.
+pub(crate) fn count_lines(text: &[u8]) -> usize {
+    let mut count: usize = 0;
+    let mut begins = true;
     for byte in text {
-        if *byte == b'\n' {
-            lines = lines.saturating_add(1);
+        if begins && *byte != b'\n' {
+            count = count.saturating_add(1);
         }
+        begins = *byte == b'\n';
     }
-    lines
+    count
 }

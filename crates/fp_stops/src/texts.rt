@@ -1,6 +1,6 @@
 //! What `show`, `log` and `audit` send behind a run, also where bytes of the log were changed.
 use crate::steps::{Answer, Folder, Row, Step, first_wrong};
-use crate::systems::{FOUR_REGIONS, TWO_REGIONS};
+use crate::systems::{Balances, FOUR_REGIONS, TWO_REGIONS, shown};
 use std::alloc::{AllocError, Global};
 use std::test::Fail;
 
@@ -9,7 +9,7 @@ struct Text {
     schedule: &'static str,
     messages: &'static str,
     sent: &'static str,
-    shown: &'static str,
+    left: Balances,
     logged: &'static str,
 }
 
@@ -18,14 +18,14 @@ static TEXTS: [Text; 6] = [
         schedule: "",
         messages: "",
         sent: "",
-        shown: "msdb ACCTS 2\n  ACCT=A001 BAL=100\n  ACCT=A002 BAL=50\nmsdb TELLERS 1\n  TNO=T001 CASH=0\n",
+        left: (100, 50, 1),
         logged: "",
     },
     Text {
         schedule: "IN R1 R1 R1 R1 IN R2 R2 IN R1 R1 R1 R1 R2 LOG",
         messages: "T1 DEPOSIT A001 10\nT2 ASK A001\nT3 DEPOSIT A001 20\n",
         sent: "T1 OK NEW\nT3 OK NEW\nT2 OK 110\n",
-        shown: "msdb ACCTS 2\n  ACCT=A001 BAL=130\n  ACCT=A002 BAL=50\nmsdb TELLERS 1\n  TNO=T001 CASH=0\n",
+        left: (130, 50, 1),
         logged: "group 0 entries 3
 0 from 0 notes 0 DONE T1 DEPOSIT A001 10 => NEW
 1 from 1 notes 1 DONE T3 DEPOSIT A001 20 => NEW
@@ -36,7 +36,7 @@ static TEXTS: [Text; 6] = [
         schedule: "IN R1 R1 R1 R1 IN R1 R1 R1 R1 IN R1 R1 R1 R1 IN R1 R1 R1 R1 LOG",
         messages: "T1 DEPOSIT A001 1\nT2 DEPOSIT A001 2\nT3 DEPOSIT A001 3\nT4 DEPOSIT A002 -60\n",
         sent: "T1 OK NEW\nT2 OK NEW\nT3 OK NEW\nT4 OK NEW\n",
-        shown: "msdb ACCTS 2\n  ACCT=A001 BAL=106\n  ACCT=A002 BAL=-10\nmsdb TELLERS 1\n  TNO=T001 CASH=0\n",
+        left: (106, -10, 1),
         logged: "group 0 entries 4
 0 from 0 notes 0 DONE T1 DEPOSIT A001 1 => NEW
 1 from 1 notes 1 DONE T2 DEPOSIT A001 2 => NEW
@@ -48,7 +48,7 @@ static TEXTS: [Text; 6] = [
         schedule: "IN R1 R1 R1 LOG IN LOG",
         messages: "T1 WDRAW A002 60\nT2 NOSUCH\n",
         sent: "T1 NO ROLB 7\nT2 NO UNKNOWN\n",
-        shown: "msdb ACCTS 2\n  ACCT=A001 BAL=100\n  ACCT=A002 BAL=50\nmsdb TELLERS 1\n  TNO=T001 CASH=0\n",
+        left: (100, 50, 1),
         logged: "group 0 entries 1
 0 from 0 notes 0 ROLB 7 T1 WDRAW A002 60 => -
 group 1 entries 1
@@ -59,7 +59,7 @@ group 1 entries 1
         schedule: "IN IN R1 R2 R1 R2 R1 R2 R1 R2 R2 LOG",
         messages: "T1 WDRAW A001 60\nT2 WDRAW A001 60\n",
         sent: "T1 OK PAID 60\nT2 NO VERIFY\n",
-        shown: "msdb ACCTS 2\n  ACCT=A001 BAL=40\n  ACCT=A002 BAL=50\nmsdb TELLERS 1\n  TNO=T001 CASH=0\n",
+        left: (40, 50, 1),
         logged: "group 0 entries 2
 0 from 0 notes 0 DONE T1 WDRAW A001 60 => PAID 60
 1 from 0 notes 0 VERIFY 0.0 0000040c T2 WDRAW A001 60 => -
@@ -69,7 +69,7 @@ group 1 entries 1
         schedule: "IN R1 R1 R1 R1 R1 R1 LOG IN LOG",
         messages: "T1 HIRE T009\n\n",
         sent: "T1 OK / XP\n? NO UNKNOWN\n",
-        shown: "msdb ACCTS 2\n  ACCT=A001 BAL=100\n  ACCT=A002 BAL=50\nmsdb TELLERS 2\n  TNO=T001 CASH=0\n  TNO=T009 CASH=0\n",
+        left: (100, 50, 2),
         logged: "group 0 entries 1
 0 from 0 notes - DONE T1 HIRE T009 => / XP
 group 1 entries 1
@@ -83,7 +83,7 @@ fn is_told(alloc: Global, text: &Text) -> Result<bool, AllocError> {
     let mut folder = Folder::new(alloc, TWO_REGIONS)?;
     let made = folder.tells("define", "")?;
     let ran = folder.runs(text.schedule, text.messages, text.sent)?;
-    let shown = folder.tells("show", text.shown)?;
+    let shown = folder.tells("show", shown(alloc, text.left)?.as_str())?;
     let logged = folder.tells("log", text.logged)?;
     Ok(made && ran && shown && logged)
 }
@@ -290,16 +290,13 @@ IN R1 R2 R3 R4
 IN R1 R2 R3 R4",
 ];
 
-const MIXED_SHOWN: &str =
-    "msdb ACCTS 2\n  ACCT=A001 BAL=290\n  ACCT=A002 BAL=40\nmsdb TELLERS 1\n  TNO=T001 CASH=0\n";
-
 #[test]
 fn a_mix_comes_to_one_text_by_each_schedule(rt: HostRuntime) -> Result<(), Fail> {
     for (place, schedule) in MIXED_SCHEDULES.iter().enumerate() {
         let mut folder = Folder::new(rt.alloc(), FOUR_REGIONS)?;
         let made = folder.tells("define", "")?;
         let ran = folder.runs_lines(schedule, MIXED, 30)?;
-        let shown = folder.tells("show", MIXED_SHOWN)?;
+        let shown = folder.tells("show", shown(rt.alloc(), (290, 40, 1))?.as_str())?;
         assert!(rt; made && ran && shown, "schedule {place}");
     }
     Ok(())

@@ -1,11 +1,11 @@
 //! The last number of each terminal.
+use crate::queues::terminal;
 use balancing::Lasts;
-use fp_model::{Bytes, Name};
+use fp_model::Bytes;
 use std::alloc::{AllocError, Global};
 use std::test::Fail;
 
 /// What is done, and what is to come of it. Terminals go by their digit.
-#[derive(Clone, Copy)]
 enum Step {
     /// A terminal gets this number and line.
     Set(u8, u64, &'static [u8]),
@@ -41,14 +41,9 @@ static IN_ORDER: [Step; 18] = [
     Step::Has(2, 7, b"T2 OK"),
 ];
 
-/// The name of a terminal: T and its digit.
-fn terminal(digit: u8) -> Name {
-    Name([b'T', b'0' + digit % 10, b' ', b' ', b' ', b' ', b' ', b' '])
-}
-
 /// Whether a step answers so.
-fn answers(alloc: Global, lasts: &mut Lasts, step: Step) -> Result<bool, AllocError> {
-    match step {
+fn answers(alloc: Global, lasts: &mut Lasts, step: &Step) -> Result<bool, AllocError> {
+    match *step {
         Step::Set(digit, number, line) => {
             let line = Bytes::from_slice(alloc, line)?;
             lasts.reserve(1)?;
@@ -69,7 +64,7 @@ fn answers(alloc: Global, lasts: &mut Lasts, step: Step) -> Result<bool, AllocEr
 fn first_wrong(alloc: Global, steps: &[Step]) -> Result<Option<usize>, AllocError> {
     let mut lasts = Lasts::new(alloc)?;
     for (place, step) in steps.iter().enumerate() {
-        if !answers(alloc, &mut lasts, *step)? {
+        if !answers(alloc, &mut lasts, step)? {
             return Ok(Some(place));
         }
     }

@@ -1,5 +1,5 @@
-//! Tests of the low crates: lists, numbers, exits, queues, last numbers, sites, sources, lines, locks, field search arguments,
-//! entries.
+//! Tests of the low crates: lists, numbers, exits, queues, last numbers, sites, sources, the files of a folder, lines,
+//! locks, field search arguments, entries.
 //!
 //! They stand here and not in the crates that they test, since a crate with tests is proved twice. Each file tests one
 //! crate. What is a set of cases, text in and value out, is data of a program above and not here: of those calls only a
@@ -10,6 +10,8 @@
 mod arguments;
 #[cfg(test)]
 mod exits;
+#[cfg(test)]
+mod files;
 #[cfg(test)]
 mod last_numbers;
 #[cfg(test)]
@@ -30,3 +32,5 @@ mod queues;
 mod sites;
 #[cfg(test)]
 mod sources;
+#[cfg(test)]
+mod steps;

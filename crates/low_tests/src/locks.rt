@@ -7,7 +7,6 @@ use std::alloc::{AllocError, Global};
 use std::test::Fail;
 
 /// What is asked of the locks, and what is to come of it.
-#[derive(Clone, Copy)]
 enum Step {
     /// A region asks for a resource.
     Ask(u8, Wanted, Mode, Answer),
@@ -94,11 +93,11 @@ fn is_grant(grant: Grant, answer: Answer) -> bool {
 }
 
 /// Whether a step answers so, of locks of three regions.
-fn answers(alloc: Global, locks: &mut Locks, step: Step) -> Result<bool, AllocError>
+fn answers(alloc: Global, locks: &mut Locks, step: &Step) -> Result<bool, AllocError>
     requires { length locks.old ≡ 3 }
     ensures { length locks.new ≡ 3 }
 {
-    match step {
+    match *step {
         Step::Ask(region @ 1..=3, wanted, mode, answer) => {
             let wanted = resource(alloc, wanted)?;
             let grant = locks.ask(region, &wanted, mode)?;
@@ -121,7 +120,7 @@ fn answers(alloc: Global, locks: &mut Locks, step: Step) -> Result<bool, AllocEr
 fn first_wrong(alloc: Global, steps: &[Step]) -> Result<Option<usize>, AllocError> {
     let mut locks = Locks::new(alloc, 3)?;
     for (place, step) in steps.iter().enumerate() {
-        if !answers(alloc, &mut locks, *step)? {
+        if !answers(alloc, &mut locks, step)? {
             return Ok(Some(place));
         }
     }

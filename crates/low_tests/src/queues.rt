@@ -10,7 +10,6 @@ use std::alloc::{AllocError, Global};
 use std::test::Fail;
 
 /// What is done with the queues, and what is to come of it. Terminals go by their digit.
-#[derive(Clone, Copy)]
 enum Step {
     /// A message of a terminal to a transaction comes into the queue of this group.
     Queued(u8, &'static [u8; 8], &'static [u8], u8),
@@ -75,7 +74,7 @@ const MARKED: [Step; 11] = [
 ];
 
 /// The name of a terminal: T and its digit.
-fn terminal(digit: u8) -> Name {
+pub(crate) fn terminal(digit: u8) -> Name {
     Name([b'T', b'0' + digit % 10, b' ', b' ', b' ', b' ', b' ', b' '])
 }
 
@@ -117,12 +116,12 @@ fn answers(
     alloc: Global,
     queues: &mut Queues,
     router: &Router,
-    step: Step,
+    step: &Step,
 ) -> Result<bool, AllocError>
     requires { length queues.old.queues ≡ 2 }
     ensures { length queues.new.queues ≡ 2 }
 {
-    match step {
+    match *step {
         Step::Queued(lterm, tran, text, group) => {
             let offered = message(alloc, lterm, tran, text)?;
             Ok(queues.offer(offered, router)? == Offer::Queued(group))
@@ -161,7 +160,7 @@ fn first_wrong(
 ) -> Result<Option<usize>, AllocError> {
     let mut queues = Queues::new(alloc, 2)?;
     for (place, step) in steps.iter().enumerate() {
-        if !answers(alloc, &mut queues, router, *step)? {
+        if !answers(alloc, &mut queues, router, step)? {
             return Ok(Some(place));
         }
     }

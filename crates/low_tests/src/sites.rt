@@ -1,5 +1,4 @@
 //! What no clause says, and a small caller that is proved.
 mod calls;
 mod failing;
-mod steps;
 mod uses;

@@ -1,7 +1,7 @@
 //! Each call with ample memory, and what calls told to fail, stops and crashes leave.
-use super::steps::Answer::{Bytes as Four, Done, Length};
-use super::steps::Step::{Reach, Read, Send, Size, Sync, Write};
-use super::steps::{Answer, Step, first_wrong, take};
+use crate::steps::Answer::{Bytes as Four, Done, Length};
+use crate::steps::Step::{Reach, Read, Send, Size, Sync, Write};
+use crate::steps::{Answer, Step, first_wrong, take};
 use fp_lists::{Bytes, List};
 use fp_site::{Failed, MemorySite, Site, Snapshot};
 use std::alloc::Global;
@@ -26,13 +26,13 @@ fn log_of(snapshot: &Snapshot) -> &[u8] {
 static EACH: [(Step, Answer); 9] = [
     (Size, Length(0)),
     (Reach, Done),
-    (Write(2, [7, 8]), Done),
+    (Write(2, &[7, 8]), Done),
     (Size, Length(4)),
     (Read(1), Four([0, 7, 8, 0])),
     (Sync, Done),
-    (Write(0, [1, 2]), Done),
+    (Write(0, &[1, 2]), Done),
     (Read(0), Four([1, 2, 7, 8])),
-    (Send, Done),
+    (Send(b"T1 OK\n"), Done),
 ];
 
 #[test]
@@ -47,7 +47,14 @@ fn each_call_answers(rt: HostRuntime) -> Result<(), Fail> {
     Ok(())
 }
 
-static CALLS: [Step; 6] = [Size, Reach, Read(0), Write(0, [5, 6]), Sync, Send];
+static CALLS: [Step; 6] = [
+    Size,
+    Reach,
+    Read(0),
+    Write(0, &[5, 6]),
+    Sync,
+    Send(b"T1 OK\n"),
+];
 
 #[test]
 fn each_call_told_to_fail_fails_and_is_counted(rt: HostRuntime) -> Result<(), Fail> {
@@ -55,7 +62,7 @@ fn each_call_told_to_fail_fails_and_is_counted(rt: HostRuntime) -> Result<(), Fa
     for told in 0..6 {
         let mut site = site_of(alloc, &[1, 2, 3, 4], &[told])?;
         for (which, call) in CALLS.iter().enumerate() {
-            let fails = take(&mut site, 0, *call) == Answer::Failed;
+            let fails = take(&mut site, 0, call) == Answer::Failed;
             assert!(rt; fails == (which as u64 == told), "at {which}");
         }
         assert!(rt; site.faults() == 1 && site.shorts() == 0);
@@ -122,7 +129,6 @@ fn run(site: &mut MemorySite) -> Result<(), Failed> {
 }
 
 // What every crash after a stop has in common.
-#[derive(Clone, Copy)]
 struct Stop {
     // Whether the site stops before the end of `run`.
     fails: bool,

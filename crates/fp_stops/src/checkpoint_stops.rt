@@ -1,0 +1,239 @@
+//! Two checkpoints in steps, with a write of the log before each step: failed or stopped at each call.
+ghost use Rattle.checkpoint_format.specs.Given.{terminals_of};
+ghost use Rattle.fp_model.specs.CheckpointText.{AreLasts};
+ghost use Rattle.fp_model.specs.WellFormed.{AreDefs};
+ghost use Rattle.std.specs.Option.{option_copied};
+ghost use Rattle.std.specs.Prelude.{◌≤◌};
+
+use crate::systems::{NOTES, defs_of};
+use balancing::Lasts;
+use fp_model::Defs;
+use fp_site::{MemorySite, Site};
+use msdb_checkpoint::{Checkpoints, CkptFault, Loaded};
+use msdb_store::MsdbStore;
+use std::alloc::{AllocError, Global};
+use std::test::Fail;
+
+/// What is loaded at the first checkpoint,
+const FIRST: &str = "[[\"A002\", \"old\"], [\"A001\", \"one\"]]\n";
+
+/// and at the second.
+const SECOND: &str = "[[\"A002\", \"old\"], [\"A001\", \"two\"]]\n";
+
+/// Gives data sets 1 and 2 a byte, as a site has them that was made.
+pub(crate) fn prepare(site: &mut MemorySite) -> bool {
+    for set in 1..3 {
+        if site.write_at(set, 0, &[0]).is_err() || site.sync(set).is_err() {
+            return false;
+        }
+    }
+    true
+}
+
+/// Writes a checkpoint of this number in steps, with a write of the log before each. Whether it is sure.
+fn write_in_steps(
+    alloc: Global,
+    site: &mut MemorySite,
+    checkpoints: &mut Checkpoints,
+    number: u64,
+    defs: &Defs,
+) -> Result<bool, AllocError>
+    requires number { number ≤ 2 }
+    requires defs { AreDefs defs.now }
+{
+    let store = MsdbStore::start(alloc, defs)?;
+    checkpoints.begin(alloc, defs, number * 100, number, &store, None)?;
+    for _ in 0..8 {
+        if site.write_at(0, number, &[7]).is_err() || site.sync(0).is_err() {
+            return Ok(false);
+        }
+        match checkpoints.step(site) {
+            Ok(true) => return Ok(true),
+            Ok(false) => {}
+            Err(_) => return Ok(false),
+        }
+    }
+    Ok(false)
+}
+
+/// Writes two checkpoints, until a call fails. How many are sure.
+fn write_two(
+    alloc: Global,
+    site: &mut MemorySite,
+    first: &Defs,
+    second: &Defs,
+) -> Result<u64, AllocError>
+    requires first { AreDefs first.now }
+    requires second { AreDefs second.now }
+{
+    if !prepare(site) {
+        return Ok(0);
+    }
+    let mut checkpoints = Checkpoints::open(None, 2);
+    if !write_in_steps(alloc, site, &mut checkpoints, 1, first)? {
+        return Ok(0);
+    }
+    if !write_in_steps(alloc, site, &mut checkpoints, 2, second)? {
+        return Ok(1);
+    }
+    Ok(2)
+}
+
+/// Whether a checkpoint is the first or the second one, whole.
+fn is_whole(loaded: &Loaded) -> bool {
+    let note: &[u8] = if loaded.number == 1 {
+        b"A001one "
+    } else {
+        b"A001two "
+    };
+    if loaded.msdbs.len() != 1 {
+        return false;
+    }
+    let segments = &loaded.msdbs.as_slice()[0].segments;
+    loaded.at == loaded.number.saturating_mul(100)
+        && loaded.count == loaded.number
+        && segments.len() == 2
+        && segments.as_slice()[0].as_slice() == note
+}
+
+/// The number of the newest checkpoint, 0 where there is none; none where it isn't whole or can't be read.
+fn newest_number(alloc: Global, site: &mut MemorySite, defs: &Defs) -> Option<u64> {
+    match Checkpoints::newest(alloc, site, defs) {
+        Ok(None) => Some(0),
+        Ok(Some(loaded)) if is_whole(&loaded) => Some(loaded.number),
+        _ => None,
+    }
+}
+
+/// Whether the site has at least so many checkpoints, whole, and its data set of the newest is theirs.
+fn keeps(alloc: Global, site: &mut MemorySite, defs: &Defs, sure: u64) -> bool {
+    let Some(number) = newest_number(alloc, site, defs) else {
+        return false;
+    };
+    let slot = if number == 1 { 1 } else { 2 };
+    sure <= number && number <= 2 && matches!(Checkpoints::slot_of(site), Ok(set) if set == slot)
+}
+
+/// A stop at this call: whether each of eight images that a crash may leave keeps what was sure.
+fn keeps_at_stop(alloc: Global, stop: u64, first: &Defs, second: &Defs) -> Result<bool, AllocError>
+    requires first { AreDefs first.now }
+    requires second { AreDefs second.now }
+{
+    let mut site = MemorySite::stopping(alloc, stop)?;
+    let sure = write_two(alloc, &mut site, first, second)?;
+    for choice in 0..8 {
+        let mut left = MemorySite::from_snapshot(alloc, site.snapshot_as(choice)?, &[])?;
+        if !keeps(alloc, &mut left, first, sure) {
+            return Ok(false);
+        }
+    }
+    Ok(true)
+}
+
+/// The two checkpoints make 34 calls.
+const CALLS: u64 = 36;
+
+#[test]
+fn every_stop_keeps_the_newest(rt: HostRuntime) -> Result<(), Fail> {
+    let first = defs_of(rt.alloc(), &[NOTES, FIRST])?;
+    let second = defs_of(rt.alloc(), &[NOTES, SECOND])?;
+    for stop in 0..CALLS {
+        assert!(rt;
+            keeps_at_stop(rt.alloc(), stop, &first, &second)?,
+            "stop {stop}"
+        );
+    }
+    Ok(())
+}
+
+/// The call with this number fails alone: whether a site whose calls don't fail finds what was sure.
+fn keeps_at_failure(
+    alloc: Global,
+    call: u64,
+    first: &Defs,
+    second: &Defs,
+) -> Result<bool, AllocError>
+    requires first { AreDefs first.now }
+    requires second { AreDefs second.now }
+{
+    let mut site = MemorySite::new(alloc, &[call])?;
+    let sure = write_two(alloc, &mut site, first, second)?;
+    let mut left = MemorySite::from_snapshot(alloc, site.snapshot_as(1)?, &[])?;
+    Ok(keeps(alloc, &mut left, first, sure))
+}
+
+#[test]
+fn every_failed_call_keeps_the_newest(rt: HostRuntime) -> Result<(), Fail> {
+    let first = defs_of(rt.alloc(), &[NOTES, FIRST])?;
+    let second = defs_of(rt.alloc(), &[NOTES, SECOND])?;
+    for call in 0..CALLS {
+        assert!(rt;
+            keeps_at_failure(rt.alloc(), call, &first, &second)?,
+            "call {call}"
+        );
+    }
+    Ok(())
+}
+
+#[test]
+fn without_a_fault_both_are_sure(rt: HostRuntime) -> Result<(), Fail> {
+    let first = defs_of(rt.alloc(), &[NOTES, FIRST])?;
+    let second = defs_of(rt.alloc(), &[NOTES, SECOND])?;
+    let mut site = MemorySite::new(rt.alloc(), &[])?;
+    assert!(rt; write_two(rt.alloc(), &mut site, &first, &second)? == 2);
+    assert!(rt; newest_number(rt.alloc(), &mut site, &second) == Some(2));
+    Ok(())
+}
+
+/// The bytes of the first checkpoint at place 100 with 1 entry before it: its gate, the letters, three numbers, the
+/// number of databases, and of the one database the length of a segment, their number, and the segments.
+const IN_FORMAT_ONE: &[u8] = b"\x01IMSFPCK1\
+\x00\x00\x00\x00\x00\x00\x00\x01\x00\x00\x00\x00\x00\x00\x00\x64\x00\x00\x00\x00\x00\x00\x00\x01\
+\x01\x00\x08\x00\x00\x00\x02A001one A002old ";
+
+/// In format 2 the number of terminals, none, stands behind that.
+const IN_FORMAT_TWO: &[u8] = b"\x01IMSFPCK2\
+\x00\x00\x00\x00\x00\x00\x00\x01\x00\x00\x00\x00\x00\x00\x00\x64\x00\x00\x00\x00\x00\x00\x00\x01\
+\x01\x00\x08\x00\x00\x00\x02A001one A002old \x00\x00\x00\x00\x00\x00\x00\x00";
+
+/// Whether a checkpoint of this format was read, whole and without terminals.
+fn is_in_format(loaded: &Result<Option<Loaded>, CkptFault>, format: u8) -> bool {
+    match loaded {
+        Ok(Some(one)) => one.format == format && is_whole(one) && one.lasts.is_empty(),
+        _ => false,
+    }
+}
+
+/// Whether a first checkpoint is written as these bytes, and read back in this format.
+fn comes_back(
+    alloc: Global,
+    defs: &Defs,
+    lasts: Option<&Lasts>,
+    format: u8,
+    bytes: &[u8],
+) -> Result<bool, AllocError>
+    requires defs { AreDefs defs.now }
+    requires terminals { AreLasts (terminals_of (option_copied lasts)) }
+{
+    let store = MsdbStore::start(alloc, defs)?;
+    let mut site = MemorySite::new(alloc, &[])?;
+    let mut checkpoints = Checkpoints::open(None, 2);
+    if !prepare(&mut site) {
+        return Ok(false);
+    }
+    let written = checkpoints.write(alloc, &mut site, defs, 100, 1, &store, lasts);
+    let is_written = written.is_ok()
+        && site.contents(1) == bytes
+        && site.contents(2) == [0].as_slice();
+    Ok(is_written && is_in_format(&Checkpoints::newest(alloc, &mut site, defs), format))
+}
+
+#[test]
+fn bytes_are_those_of_the_format(rt: HostRuntime) -> Result<(), Fail> {
+    let defs = defs_of(rt.alloc(), &[NOTES, FIRST])?;
+    let none = Lasts::new(rt.alloc())?;
+    for (lasts, format, bytes) in [(None, 1, IN_FORMAT_ONE), (Some(&none), 2, IN_FORMAT_TWO)] {
+        assert!(rt; comes_back(rt.alloc(), &defs, lasts, format, bytes)?);
+    }
+    Ok(())
+}
