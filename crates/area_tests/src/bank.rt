@@ -45,7 +45,7 @@ capacity = 4
 "#;
 
 /// Whether these are customers, their notes and their loans.
-#[tactic(auto, using(crate::proofs::Bank::customer_types))]
+#[tactic(auto, using(crate::proofs::BankLemmas::customer_types))]
 fn are_customer_types(types: &[SegDef]) -> bool
     ensures { IsTrue result → AreCustomerTypes types.now }
 {
@@ -100,7 +100,7 @@ fn are_bank_dedbs(dedbs: &[DedbDef]) -> bool
 }
 
 /// Whether the only database is the one of the tests.
-#[tactic(auto, using(crate::proofs::Bank::is_bank))]
+#[tactic(auto, using(crate::proofs::BankLemmas::is_bank))]
 fn is_bank(defs: &Defs) -> bool
     requires { AreDefs defs.now }
     ensures { IsTrue result → IsBank defs.now }

@@ -262,7 +262,7 @@ impl Bench {
     }
 
     /// Stages the changes of a commit. None where they are no customers or notes.
-    #[tactic(auto, using(crate::proofs::Bank::may_stage))]
+    #[tactic(auto, using(crate::proofs::BankLemmas::may_stage))]
     fn stage(&mut self, changes: &[Change]) -> Result<Option<List<Item>>, AreaFault>
         requires { HasBank self.old.defs self.old.areas.places }
         ensures bank { HasBank self.new.defs self.new.areas.places }

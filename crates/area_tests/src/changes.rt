@@ -155,7 +155,7 @@ pub(crate) fn text_of(alloc: Global, roots: &List<Root>) -> Result<Bytes, AllocE
 // ---- what may be staged, and applied
 
 /// Whether this is a customer without loans.
-#[tactic(auto, using(crate::proofs::Bank::customer_storable))]
+#[tactic(auto, using(crate::proofs::BankLemmas::customer_storable))]
 fn is_customer(root: &Root) -> bool
     ensures { IsTrue result → (types : ListOf SegDefOf) → AreCustomerTypes types
         → is_storable types (kept_root root.now) ≡ true }

@@ -179,7 +179,7 @@ fn inserts_of(alloc: Global, rows: &[Note]) -> Result<List<SeqInsert>, AllocErro
 }
 
 /// Stores anchors. No answer of the area's where the roots are no customers.
-#[tactic(auto, using(crate::proofs::Bank::lone_storable))]
+#[tactic(auto, using(crate::proofs::BankLemmas::lone_storable))]
 fn store(
     alloc: Global,
     area: &mut MemoryArea,
@@ -196,7 +196,7 @@ fn store(
 }
 
 /// Puts notes.
-#[tactic(auto, using(crate::proofs::Bank::lone_insertable))]
+#[tactic(auto, using(crate::proofs::BankLemmas::lone_insertable))]
 fn append(
     alloc: Global,
     area: &mut MemoryArea,

@@ -1,4 +1,4 @@
-use Rattle.area_tests.proofs.Bank.{all_images}
+use Rattle.area_tests.proofs.BankLemmas.{all_images}
 use Rattle.area_tests.proofs.logging.apply.Goals as goal
 
 pub apply-requires-clause-fit : goal.apply-requires-clause-fit

@@ -1,5 +1,5 @@
 use Rattle.std.proofs.Common.{length, arith, ap}
-use Rattle.area_tests.proofs.Bank.{all_spelled}
+use Rattle.area_tests.proofs.BankLemmas.{all_spelled}
 use Rattle.area_tests.proofs.logging.entry_of.Goals as goal
 
 pub returns-clause-rules : goal.returns-clause-rules
