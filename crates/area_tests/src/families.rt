@@ -112,7 +112,7 @@ fn loans(alloc: Global, parent: &Parent) -> Result<List<Node>, AllocError>
 {
     let mut row = List::new(alloc);
     for (place, payments) in parent.loans.iter().enumerate() {
-        let key = place as u8;
+        let key = u8::try_from(place).unwrap_or(u8::MAX);
         if key != parent.missing.0 {
             row.push(loan(alloc, parent, key, *payments)?)?;
         }

@@ -27,10 +27,10 @@ fn area(rt: &HostRuntime, seq_cis: u32) -> Result<MemoryArea, Fail> {
 
 /// An anchor and its parents, step by step: rows become longer and shorter, a parent changes its name and another its key,
 /// and two anchors of one unit of work share its overflow.
-static STEPS: [(u32, [Row; 3]); 6] = [
+static STEPS: [(u32, &[Row; 3]); 6] = [
     (
         2,
-        [
+        &[
             (1, b'A', &[2, 1], 2),
             (2, b'B', &[0, 1], 1),
             (3, b'C', &[1, 1], 0),
@@ -38,7 +38,7 @@ static STEPS: [(u32, [Row; 3]); 6] = [
     ),
     (
         3,
-        [
+        &[
             (4, b'D', &[9, 1], 9),
             (5, b'E', &[9, 1], 9),
             (6, b'F', &[9, 1], 9),
@@ -46,7 +46,7 @@ static STEPS: [(u32, [Row; 3]); 6] = [
     ),
     (
         2,
-        [
+        &[
             (1, b'A', &[9, 1], 9),
             (2, b'X', &[0, 1], 1),
             (3, b'C', &[1, 1], 2),
@@ -54,7 +54,7 @@ static STEPS: [(u32, [Row; 3]); 6] = [
     ),
     (
         3,
-        [
+        &[
             (4, b'D', &[1, 1], 0),
             (5, b'E', &[9, 1], 9),
             (7, b'F', &[2, 1], 3),
@@ -62,7 +62,7 @@ static STEPS: [(u32, [Row; 3]); 6] = [
     ),
     (
         2,
-        [
+        &[
             (1, b'A', &[0, 1], 0),
             (2, b'X', &[0, 1], 0),
             (3, b'C', &[0, 1], 0),
@@ -70,7 +70,7 @@ static STEPS: [(u32, [Row; 3]); 6] = [
     ),
     (
         2,
-        [
+        &[
             (0, b'N', &[3, 1], 3),
             (2, b'X', &[12, 1], 12),
             (9, b'C', &[12, 1], 12),
@@ -97,10 +97,10 @@ fn has(alloc: Global, area: &mut MemoryArea, anchor: u32, list: &[Parent]) -> Re
 
 /// Whether an anchor has the parents of a step.
 fn has_step(alloc: Global, area: &mut MemoryArea, number: usize) -> Result<bool, Fail> {
-    if number >= STEPS.len() || STEPS[number].0 >= 4 {
+    let Some((anchor, list)) = STEPS.get(number) else {
         return Ok(false);
-    }
-    has(alloc, area, STEPS[number].0, &parents(&STEPS[number].1))
+    };
+    Ok(*anchor < 4 && has(alloc, area, *anchor, &parents(list))?)
 }
 
 /// Stores parents at an anchor. Whether the call succeeds.
