@@ -29,10 +29,10 @@ fn refused(
     schedule: &str,
 ) -> Result<(String, bool), AllocError> {
     let parts = [
-        definitions.as_bytes(),
-        scripts.as_bytes(),
-        schedule.as_bytes(),
-        b"".as_slice(),
+        Bytes::from_slice(alloc, definitions.as_bytes())?,
+        Bytes::from_slice(alloc, scripts.as_bytes())?,
+        Bytes::from_slice(alloc, schedule.as_bytes())?,
+        Bytes::new(alloc),
     ];
     let mut site = MemorySite::new(alloc, &[])?;
     let status = status_over(alloc, words, parts, &[], &mut site)?;

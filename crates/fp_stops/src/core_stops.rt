@@ -98,7 +98,8 @@ impl Stand {
         } else {
             MemorySite::stopping(self.alloc, call)?
         };
-        let task = self.stopped.row.task(&self.definitions);
+        let stopped = self.stopped;
+        let task = stopped.row.task(&self.definitions);
         let (made, done) = match run(self.alloc, &task, &self.exits, &mut site) {
             Ok(_) => (true, true),
             Err(Fault::Stopped(_)) => (true, false),
@@ -113,7 +114,8 @@ impl Stand {
     fn is_kept(&self, defs: &Defs, made: bool, snapshot: Snapshot) -> Result<bool, Fault>
         requires { AllByRecursion IsMsdbDef defs.now.msdbs }
     {
-        let row = &self.stopped.row;
+        let stopped = self.stopped;
+        let row = &stopped.row;
         let is_first = row.sent.as_bytes().starts_with(snapshot.sent.as_slice());
         let answered = count_lines(snapshot.sent.as_slice());
         let mut site = MemorySite::from_snapshot(self.alloc, snapshot, &[])?;
@@ -133,10 +135,11 @@ impl Stand {
 
     // The text of the databases behind so many entries.
     fn databases(&self, entries: usize) -> Result<String, AllocError> {
+        let stopped = self.stopped;
         let balance = match entries {
-            0 => self.stopped.balances[0],
-            1 => self.stopped.balances[1],
-            _ => self.stopped.balances[2],
+            0 => stopped.balances[0],
+            1 => stopped.balances[1],
+            _ => stopped.balances[2],
         };
         shown(self.alloc, (balance, 50, 1))
     }
@@ -184,13 +187,14 @@ fn a_restart_has_what_was_answered(rt: HostRuntime) -> Result<(), Fail> {
 // How many of the stopped runs of a stand end in half of a reply line. None where one is done though a call failed, or
 // isn't where none did.
 fn count_torn(stand: &Stand) -> Result<Option<u64>, Fault> {
+    let stopped = stand.stopped;
     let mut torn: u64 = 0;
     for call in 0..MOST_CALLS {
         let Left { site, done, .. } = stand.fail(call, false)?;
         if done != (site.faults() == 0) {
             return Ok(None);
         }
-        if is_torn(site.sent(), stand.stopped.row.sent.as_bytes()) {
+        if is_torn(site.sent(), stopped.row.sent.as_bytes()) {
             torn = torn.saturating_add(1);
         }
     }

@@ -10,16 +10,10 @@ use std::alloc::{AllocError, Global};
 pub(crate) fn status_over(
     alloc: Global,
     words: &[&str],
-    parts: [&[u8]; 4],
+    parts: [Bytes; 4],
     failing: &[u64],
     site: &mut MemorySite,
 ) -> Result<Status, AllocError> {
-    let parts = [
-        Bytes::from_slice(alloc, parts[0])?,
-        Bytes::from_slice(alloc, parts[1])?,
-        Bytes::from_slice(alloc, parts[2])?,
-        Bytes::from_slice(alloc, parts[3])?,
-    ];
     let mut source = MemorySource::new(alloc, parts, failing)?;
     let mut texts = Vec::new(alloc);
     for word in words {
@@ -51,12 +45,11 @@ pub(crate) fn run(
     input: Input<'_>,
     site: &mut MemorySite,
 ) -> Result<(Status, Bytes), AllocError> {
-    let definitions = system.definitions(alloc)?;
     let parts = [
-        definitions.as_slice(),
-        system.scripts.as_bytes(),
-        input.schedule.as_bytes(),
-        input.messages,
+        system.definitions(alloc)?,
+        Bytes::from_slice(alloc, system.scripts.as_bytes())?,
+        Bytes::from_slice(alloc, input.schedule.as_bytes())?,
+        Bytes::from_slice(alloc, input.messages)?,
     ];
     let before = site.sent().len();
     let status = status_over(alloc, &[command, "D"], parts, input.failing, site)?;
