@@ -1,4 +1,5 @@
--- That what stands in front of a log's gate stays, whatever its groups are, and also where that gate is absent.
+-- That what stands in front of a log's gate stays where every crash leaves the log, whatever its groups are, and also where
+-- that gate is absent.
 use Rattle.std.specs.Prelude.{ℕ, ◌≤◌, List}
 use Rattle.fp_model.specs.declared.log.Entry.{Entry}
 use Rattle.fp_model.specs.LogText.{Front}
@@ -15,11 +16,11 @@ pub record HasFront (bytes : List ℕ) (at : ℕ) (disk : Disk) (gate : ℕ) : T
   pub behind : at ≤ gate
   pub same : IsFrontOf bytes at (disk.contents 0)
 
--- whatever a log has in front of its gate, a crash at any moment since leaves a log that has it
+-- whatever a durable log has in front of its gate, a crash at any moment since leaves a log that has it
 abbrev pub KeepsFronts : Disk → ℕ → Disk → Type 0
 KeepsFronts old gate new =
     (bytes : List ℕ) (at : ℕ) → HasFront bytes at old gate → Through old new (HasFrontOf bytes at)
 
--- and so does the log now, up to its gate now
+-- and the log now is durable, holds groups up to its gate now, and has it too
 abbrev pub HoldsFronts : Disk → ℕ → Disk → ℕ → Type 0
 HoldsFronts old gate new next = (bytes : List ℕ) (at : ℕ) → HasFront bytes at old gate → HasFront bytes at new next

@@ -31,9 +31,8 @@ pub type Parts = (MsdbStore, Log, Lasts);
 /// The state that the log means: its groups up to the first gate that isn't open, read once, in order. Each line is
 /// read in the format at its place: that of the log's front, which the given front's format doesn't say, and 2 behind a
 /// Format entry. Nothing is written; the log is synced. `Foreign` comes exactly where the log begins with the open
-/// front of neither format, and
-/// `Damaged` exactly where a gate is the first whose bytes are outside the format or don't fit the definitions; a fault
-/// of the site and want of memory may stand in the place of both.
+/// front of neither format, and `Damaged` exactly where a gate is the first whose bytes are outside the format or don't
+/// fit the definitions; a fault of the site and want of memory may stand in the place of both.
 pub fn restart<T: Site>(
     alloc: Global,
     defs: &Defs,
@@ -53,8 +52,7 @@ pub fn restart<T: Site>(
         → (IsErrOf result faults.Foreign → ⊥) × ((set at : ℕ) → IsErrOf result (faults.Damaged set at) → ⊥) }
 
     // In any case the store is one of these definitions, no entry waits to be sealed, and the numbers are those of some
-    // entries. What was read of the log
-    // stands there, whether or not its entries are a history, and every crash leaves it.
+    // entries. What was read of the log stands there, whether or not its entries are a history, and every crash leaves it.
     ensures of { IfOk result (λ parts. IsOf defs.now.msdbs parts.0) }
     ensures unsealed { IfOk result (λ parts. parts.1.unsealed ≡ []) }
     ensures some { IfOk result (λ parts. AreOfSome parts.1 parts.2) }

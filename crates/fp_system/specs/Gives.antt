@@ -74,8 +74,8 @@ pub record Went (job : Job) (format : ℕ) (given : Input) (earlier : List Entry
   pub moments : Through old new (IsKeptBy job format given earlier before old)
 
 -- Whatever the answer is: another's log stays, and a bad one, and one of format 1, and all other data sets. A log that
--- can be read stays up to its first gate that isn't open, also if that is absent, and if its entries are no history. A
--- safe site in format 2 goes on.
+-- can be read stays up to its first gate that isn't open, also if that is absent, and if its entries are no history; but
+-- for what a sync of the log as it stood may make of it. A safe site in format 2 goes on.
 pub record Ran (job : Job) (given : Input) (answer : Status) (old new : Disk) : Type 0 where
   pub spares : IsSpared job (old.contents 0) → IsUnchanged old new
   pub first : IsOld job (old.contents 0) → IsUnchanged old new × ¬ (answer ≡ Done)
@@ -154,9 +154,9 @@ pub record HasMore (job : Job) (format : ℕ) (groups : List (List Entry)) (disk
       (groups ++ (format_entry (length (entries_of groups)) ∷ []) ∷ []) gate
 
 -- Whatever the answer is: nothing is sent, and another's log stays, and a bad one, and one of format 2, and all other
--- data sets. A log that can be read stays up to its first gate that isn't open, also if that is absent. With Done one of
--- format 1 whose gate is there has the one entry more, in a group of its own, also if its entries are no history. A safe
--- site in format 1 gets that whole, or stays.
+-- data sets. A log that can be read stays up to its first gate that isn't open, also if that is absent, but for what a sync
+-- of the log as it stood may make of it. With Done one of format 1 whose gate is there has the one entry more, in a group of
+-- its own, also if its entries are no history. A safe site in format 1 gets that whole, or stays.
 pub record Migrated (job : Job) (answer : Status) (old new : Disk) : Type 0 where
   pub spares : IsSpared job (old.contents 0) → IsUnchanged old new
   pub stays : ¬ (IsOld job (old.contents 0)) → IsUnchanged old new

@@ -34,8 +34,7 @@ pub record IsLog (front : Front) (bytes : List ℕ) (groups : List (List Entry))
   pub stands : gate < length bytes
 
 -- A disk whose log every crash leaves, and holds these groups up to a gate that isn't open. That gate may be absent:
--- then
--- the log ends with its last group.
+-- then the log ends with its last group.
 pub record IsKept (disk : Disk) (front : Front) (groups : List (List Entry)) (gate : ℕ) : Type 0 where
   pub durable : IsDurable disk 0
   pub holds : Holds front (disk.contents 0) groups gate

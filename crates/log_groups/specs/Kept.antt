@@ -1,7 +1,5 @@
--- What a site keeps over stops: a log that is sound, a site that is safe, and snapshots in which nothing answered is
--- lost.
-use Rattle.std.specs.Prelude.{◌≡◌, ℕ, ◌<◌, List, ◌++◌, length, take}
-use Rattle.std.specs.List.{flat_map}
+-- What a site keeps over stops: a log that is sound, and a site that is safe.
+use Rattle.std.specs.Prelude.{◌≡◌, ℕ, ◌<◌, List, ◌++◌, length}
 use Rattle.fp_model.specs.declared.definitions.Defs.{Defs}
 use Rattle.fp_model.specs.declared.database.Db.{Db}
 use Rattle.fp_model.specs.declared.log.Entry.{Entry}
@@ -11,14 +9,9 @@ use Rattle.fp_model.specs.Items.{AreFit, items_of, with_items}
 use Rattle.fp_model.specs.LogText.{Front, IsFormat}
 use Rattle.fp_model.specs.Product.{rules_of}
 use Rattle.fp_model.specs.Recovery.{Holds}
-use Rattle.fp_model.specs.ReplyLine.{line_of}
 use Rattle.fp_model.specs.SerialHistory.{IsSerialHistory}
 use Rattle.fp_model.specs.State.{start}
-use Rattle.fp_site.specs.Disk.{Disk, Settles, Snapshot}
-
--- the reply lines of entries, in order
-abbrev pub lines_of_entries : List Entry → List ℕ
-lines_of_entries entries = flat_map line_of entries
+use Rattle.fp_site.specs.Disk.{Disk, Settles}
 
 -- definitions, scripts, and the front of a log that is made for them
 module _ (defs : Defs) (scripts : List Script) (front : Front) where
@@ -49,15 +42,7 @@ module _ (defs : Defs) (scripts : List Script) (front : Front) where
     pub sound : IsSound log (earlier ++ later)
 
   -- So is the log that a read gives, and each that a sync may make of those that a crash now may leave. A log need not
-  -- be
-  -- for good: where a call failed, those may differ, and all of them begin so.
+  -- be for good: where a call failed, those may differ, and all of them begin so.
   pub record IsSafeFrom (disk : Disk) (earlier : List Entry) : Type 0 where
     pub now : BeginsWith (disk.contents 0) earlier
     pub crash : (image : List ℕ) → Settles disk 0 image → BeginsWith image earlier
-
-  -- behind what stood before, the log goes on by more entries, and of their reply lines a first part is sent
-  pub record GoesOn (before : Disk) (earlier : List Entry) (s : Snapshot) : Type 0 where
-    pub later : List Entry
-    pub sound : IsSound (s.images 0) (earlier ++ later)
-    pub count : ℕ
-    pub sent : before.tells_sent → s.sent ≡ before.sent ++ take count (lines_of_entries later)

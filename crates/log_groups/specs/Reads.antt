@@ -1,4 +1,4 @@
--- What reading a group comes to, and how many bytes a call read.
+-- What reading a group comes to, and which data sets a call read.
 use Rattle.std.specs.Prelude.{◌≡◌, ℕ, ◌+◌, ◌^◌, ◌<◌, ◌≤◌, List, ◌++◌, length, drop}
 use Rattle.fp_model.specs.declared.log.Entry.{Entry}
 use Rattle.fp_model.specs.Spellings.{be64}
