@@ -1,5 +1,6 @@
 -- What a site keeps over stops: a log that is sound, and a site that is safe.
 use Rattle.std.specs.Prelude.{◌≡◌, ℕ, ◌<◌, List, ◌++◌, length}
+use Rattle.std.specs.List.{flat_map}
 use Rattle.fp_model.specs.declared.definitions.Defs.{Defs}
 use Rattle.fp_model.specs.declared.database.Db.{Db}
 use Rattle.fp_model.specs.declared.log.Entry.{Entry}
@@ -9,9 +10,14 @@ use Rattle.fp_model.specs.Items.{AreFit, items_of, with_items}
 use Rattle.fp_model.specs.LogText.{Front, IsFormat}
 use Rattle.fp_model.specs.Product.{rules_of}
 use Rattle.fp_model.specs.Recovery.{Holds}
+use Rattle.fp_model.specs.ReplyLine.{line_of}
 use Rattle.fp_model.specs.SerialHistory.{IsSerialHistory}
 use Rattle.fp_model.specs.State.{start}
 use Rattle.fp_site.specs.Disk.{Disk, Settles}
+
+-- the reply lines of entries, in order
+abbrev pub lines_of_entries : List Entry → List ℕ
+lines_of_entries entries = flat_map line_of entries
 
 -- definitions, scripts, and the front of a log that is made for them
 module _ (defs : Defs) (scripts : List Script) (front : Front) where
