@@ -11,8 +11,8 @@ use crate::logging::{apply_log, entry_of, make_log, open_log};
 use ci_pool::{Owed, Pool};
 use dedb_area::{AreaFault, Areas};
 use fp_model::{AnchorChange, Bytes, Defs, Item, List, SeqInsert};
-use fp_site::MemorySite;
 use log_groups::Log;
+use memory_site::MemorySite;
 use std::alloc::{AllocError, Global};
 use std::test::Fail;
 

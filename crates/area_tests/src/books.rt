@@ -4,7 +4,8 @@ use crate::definitions::definitions;
 use ci_pool::Pool;
 use dedb_area::{AreaFault, Areas};
 use fp_model::{Bytes, List, Root};
-use fp_site::{MemorySite, Site};
+use fp_site::Site;
+use memory_site::MemorySite;
 use std::alloc::{AllocError, Global};
 use std::test::Fail;
 

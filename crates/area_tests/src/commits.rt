@@ -9,7 +9,7 @@ use crate::bench::Step::{
 };
 use crate::bench::{Bench, Came, Ended, Step};
 use crate::changes::Change::{Add, Drop, Note, Rename};
-use fp_site::MemorySite;
+use memory_site::MemorySite;
 use std::alloc::Global;
 use std::test::Fail;
 

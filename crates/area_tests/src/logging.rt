@@ -9,8 +9,8 @@ ghost use Rattle.std.specs.Prelude.{◌≡◌, ◌-◌, ◌<◌, ◌^◌, ◌≤
 use crate::changes::all_fit;
 use dedb_area::{ApplyFault, Areas};
 use fp_model::{Bytes, Defs, Entry, Item, List, Outcome};
-use fp_site::MemorySite;
 use log_groups::{Front, Log, LogFault};
+use memory_site::MemorySite;
 use std::alloc::{AllocError, Global};
 
 fn front(alloc: Global) -> Result<Front, AllocError>

@@ -7,7 +7,7 @@ ghost use Rattle.std.specs.Prelude.{◌≡◌, ◌≤◌, length, IfOk};
 
 use ci_pool::{Owed, Pool, PoolFault};
 use fp_lists::{Bytes, List};
-use fp_site::{MemorySite, Snapshot};
+use memory_site::{MemorySite, Snapshot};
 use std::alloc::{AllocError, Global};
 use std::test::Fail;
 

@@ -6,7 +6,7 @@ use crate::bench::Step::{Commit, Mark, Owes, Purge, Seal, Shows, Sync, Write, Wr
 use crate::bench::{Bench, Came, Ended, Step};
 use crate::changes::Change::{Add, Note, Rename};
 use ci_pool::Owed;
-use fp_site::MemorySite;
+use memory_site::MemorySite;
 use std::alloc::Global;
 use std::test::Fail;
 

@@ -7,8 +7,8 @@ use crate::setup::front;
 use fp_model::{Bytes, Defs};
 use fp_restart::{restart, whole_db};
 use fp_show::{show_db, show_group};
-use fp_site::MemorySite;
 use log_groups::{Group, Log};
+use memory_site::MemorySite;
 use std::alloc::Global;
 
 // Appends the text of a group. The place of the entry behind it.

@@ -3,8 +3,3 @@ pub mod Images
 pub mod Torns
 pub mod Frames
 pub mod Sendings
-mod Crashes
-mod Choices
-mod Histories
-mod DataSets
-mod Padded

@@ -1,11 +1,4 @@
-pub mod Calls
 pub mod Disk
-pub mod Faults
-pub mod History
 pub mod Moments
-pub mod Sets
 pub mod Site
-pub mod Laws
 pub mod Written
-pub mod Past
-pub mod Memory

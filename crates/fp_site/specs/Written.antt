@@ -1,5 +1,5 @@
--- What a write leaves: its length, and its bytes by their places. These laws stand here since the trait's laws rest on
--- them.
+-- What a write leaves: its length, and its bytes by their places. These laws stand here, and not in proofs/, since
+-- definitions rest on them: a site in memory, of `memory_site`, has the trait's laws by them.
 use Rattle.std.proofs.Common.{◌≡◌, ◌⊎◌, inl, inr, ℕ, zero, suc, ◌+◌, ◌-◌, ◌<◌, ◌≤◌, max, List, [], ◌∷◌, ◌++◌, length, get_or, take, drop, replicate, refl, sym, ◌∙◌, ap, arith}
 use Rattle.std.proofs.lemmas.List.{length-take, length-drop, length-append, length-replicate, get_or_append_left, get_or-append_right, get_or-take, get_or-drop, get_or_past}
 use Rattle.std.proofs.lemmas.Bool.{cases_lt}

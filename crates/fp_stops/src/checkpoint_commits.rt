@@ -14,7 +14,7 @@ use crate::checkpoint_stops::prepare;
 use crate::systems::defs_of;
 use balancing::Lasts;
 use fp_model::{Bytes, Deferred, Defs, List, MsdbDef, key_length};
-use fp_site::MemorySite;
+use memory_site::MemorySite;
 use msdb_checkpoint::{Checkpoints, Loaded};
 use msdb_store::{MsdbStore, VerifyFault};
 use std::alloc::{AllocError, Global};

@@ -9,7 +9,7 @@ use crate::systems::{definitions, exits, shown};
 use core_runs::{Fault, databases_text, find, log_text, run};
 use fp_exits::Exits;
 use fp_model::{Bytes, Defs};
-use fp_site::{MemorySite, Snapshot};
+use memory_site::{MemorySite, Snapshot};
 use std::alloc::{AllocError, Global};
 use std::test::Fail;
 

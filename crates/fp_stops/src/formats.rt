@@ -2,8 +2,9 @@
 use crate::groups::{front_of, seal_unknown};
 use crate::steps::{Input, NOTHING, run};
 use crate::systems::ONE_REGION;
-use fp_site::{MemorySite, Site, Snapshot};
+use fp_site::Site;
 use fp_system::Status;
+use memory_site::{MemorySite, Snapshot};
 use std::alloc::{AllocError, Global};
 use std::test::Fail;
 

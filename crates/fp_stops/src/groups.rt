@@ -4,8 +4,8 @@ ghost use Rattle.log_groups.specs.Images.{as_front};
 ghost use Rattle.std.specs.Prelude.{◌<◌, ◌^◌, IfOk, length};
 
 use fp_model::{Bytes, Entry, List, Outcome};
-use fp_site::MemorySite;
 use log_groups::{Front, Log};
+use memory_site::MemorySite;
 use std::alloc::{AllocError, Global};
 
 // A text of a front.

@@ -4,8 +4,9 @@ ghost use Rattle.log_groups.specs.Images.{as_front};
 ghost use Rattle.std.specs.Prelude.{◌<◌, IfOk};
 
 use crate::groups::{front_of, may_be_left, seal_unknown, stopping_copy, unknown};
-use fp_site::{MemorySite, Site, Snapshot};
+use fp_site::Site;
 use log_groups::{Front, Log, LogFault};
+use memory_site::{MemorySite, Snapshot};
 use std::alloc::{AllocError, Global};
 use std::test::Fail;
 

@@ -1,7 +1,7 @@
 //! What restarts give: of a log with two groups, of every stop of a making, and of logs that are damaged.
 ghost use Rattle.fp_model.specs.LogText.{FitsEntry, FitsFront, FitsItem, KeepsRules};
 ghost use Rattle.fp_model.specs.WellFormed.{AreDefs};
-ghost use Rattle.fp_site.specs.Memory.{memory_reads};
+ghost use Rattle.memory_site.specs.Memory.{memory_reads};
 ghost use Rattle.log_groups.specs.Images.{as_front};
 ghost use Rattle.std.specs.Prelude.{◌≡◌, ◌+◌, ◌-◌, ◌<◌, ◌^◌, IfOk};
 
@@ -9,8 +9,9 @@ use crate::groups::{front_of, may_be_left, stopping_copy};
 use crate::systems::{NOTES, defs_of};
 use fp_model::{AreaEnds, Bytes, Db, Defs, Entry, Item, List, Outcome};
 use fp_restart::{RestartFault, define, restart, whole_db};
-use fp_site::{MemorySite, Site};
+use fp_site::Site;
 use log_groups::{Front, Log};
+use memory_site::MemorySite;
 use std::alloc::{AllocError, Global};
 use std::test::Fail;
 

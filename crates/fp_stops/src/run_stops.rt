@@ -2,8 +2,8 @@
 use crate::steps::{Input, NOTHING, run};
 use crate::systems::{ONE_REGION, PAIRS, System, TWO_REGIONS};
 use fp_model::Bytes;
-use fp_site::{MemorySite, Snapshot};
 use fp_system::Status;
+use memory_site::{MemorySite, Snapshot};
 use std::alloc::{AllocError, Global};
 use std::test::Fail;
 

@@ -1,9 +1,10 @@
 //! Commands on a site in memory, one after another: what each answers, what it sends, and what the log has then.
 use crate::systems::{EACH_SEALED, System, exits};
 use fp_model::Bytes;
-use fp_site::{MemorySite, Site};
+use fp_site::Site;
 use fp_source::MemorySource;
 use fp_system::{Status, ims};
+use memory_site::MemorySite;
 use std::alloc::{AllocError, Global};
 
 // What a command answers over four parts, of which the reads with these numbers fail, and a site.

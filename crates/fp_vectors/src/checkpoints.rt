@@ -17,7 +17,7 @@ use crate::fault::CaseFault;
 use crate::texts::{bytes_of, number_of, put_bytes, put_words, trimmed};
 use balancing::Lasts;
 use fp_model::{Bytes, Defs, List, Msdb};
-use fp_site::{MemorySite, Snapshot};
+use memory_site::{MemorySite, Snapshot};
 use msdb_checkpoint::{Checkpoints, CkptFault, Loaded};
 use msdb_store::MsdbStore;
 use std::alloc::{AllocError, Global};

@@ -12,8 +12,8 @@ ghost use Rattle.std.specs.Prelude.{IfOk};
 use crate::fault::CaseFault;
 use crate::texts::bytes_of;
 use fp_model::{Bytes, Entry, List};
-use fp_site::{MemorySite, Snapshot};
 use log_groups::{Front, Log, LogFault};
+use memory_site::{MemorySite, Snapshot};
 use std::alloc::{AllocError, Global};
 
 // The longest text of a front.

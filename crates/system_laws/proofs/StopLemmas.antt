@@ -5,9 +5,9 @@ use Rattle.fp_model.specs.declared.log.Entry.{Entry}
 use Rattle.fp_model.specs.LogText.{first_gate}
 use Rattle.fp_model.specs.Groups.{entries_of}
 use Rattle.fp_site.specs.Disk.{Disk, Snapshot, IsDurable, IsLawful, Syncs}
-use Rattle.fp_site.specs.History.{History, LeftSince, MayLeave}
-use Rattle.fp_site.specs.Memory.{BeginsAs, memory_disk}
-use Rattle.fp_site.specs.declared.memory.MemorySite.{MemorySite}
+use Rattle.memory_site.specs.History.{History, LeftSince, MayLeave}
+use Rattle.memory_site.specs.Memory.{BeginsAs, memory_disk}
+use Rattle.memory_site.specs.declared.memory.MemorySite.{MemorySite}
 use Rattle.fp_site.proofs.Images.{durable_settles, settles_again, settles_contents}
 use Rattle.log_groups.specs.Images.{IsAtRest}
 use Rattle.log_groups.specs.Kept.{lines_of_entries}

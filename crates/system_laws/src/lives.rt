@@ -1,6 +1,6 @@
 //! A site in memory that is made, run, run again, stopped, and begun again from what the stop left: what clauses say of
 //! it.
-ghost use Rattle.fp_site.specs.Memory.{memory_disk};
+ghost use Rattle.memory_site.specs.Memory.{memory_disk};
 ghost use Rattle.fp_system.specs.Parts.{Job};
 ghost use Rattle.system_laws.specs.Stops.{HoldsOn, IsOnceOn, Standing, standing};
 ghost use Rattle.fp_system.specs.Table.{Asks, given};
@@ -9,9 +9,9 @@ ghost use Rattle.std.specs.Prelude.{◌≡◌, [], true, IfOk, IfSome};
 
 use crate::laws::{a_call_keeps_what_was_answered, a_number_counts_once};
 use fp_exits::Exits;
-use fp_site::MemorySite;
 use fp_source::Source;
 use fp_system::{Status, ims};
+use memory_site::MemorySite;
 use std::alloc::{AllocError, Global};
 
 /// Runs, whatever that answers: the site goes on holding what stood and each entry of which a line was sent.

@@ -3,7 +3,8 @@ use crate::steps::Answer::{Bytes as Four, Done, Length};
 use crate::steps::Step::{Reach, Read, Send, Size, Sync, Write};
 use crate::steps::{Answer, Step, first_wrong, take};
 use fp_lists::{Bytes, List};
-use fp_site::{Failed, MemorySite, Site, Snapshot};
+use fp_site::{Failed, Site};
+use memory_site::{MemorySite, Snapshot};
 use std::alloc::Global;
 use std::test::Fail;
 

@@ -2,7 +2,8 @@
 use crate::steps::Answer::{Bytes, Done, Failed, Length};
 use crate::steps::Step::{Reach, Read, Size, Sync, Write};
 use crate::steps::{Answer, Step, first_wrong, take};
-use fp_site::{FailingSite, Kind, MemorySite, Site};
+use fp_site::Site;
+use memory_site::{FailingSite, Kind, MemorySite};
 use std::test::Fail;
 
 static KINDS: [(Kind, Step); 5] = [

@@ -4,7 +4,8 @@ ghost use Rattle.fp_site.specs.Disk.{IsDurable, Torn, written};
 ghost use Rattle.fp_site.specs.Moments.{OnlyOn, Through};
 ghost use Rattle.fp_site.specs.Site.{Counts};
 
-use fp_site::{Failed, MemorySite, Site};
+use fp_site::{Failed, Site};
+use memory_site::MemorySite;
 use std::test::Fail;
 
 // Writes to a data set that every crash leaves as it reads, and makes the write durable.

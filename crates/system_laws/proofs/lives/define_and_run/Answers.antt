@@ -1,5 +1,5 @@
 use Rattle.std.proofs.Common.{◌≡◌, [], true}
-use Rattle.fp_site.specs.Memory.{memory_disk}
+use Rattle.memory_site.specs.Memory.{memory_disk}
 use Rattle.system_laws.specs.Stops.{standing}
 use Rattle.fp_system.specs.Table.{Asks, given}
 use Rattle.command_words.specs.declared.words.Command.TheVariants as command

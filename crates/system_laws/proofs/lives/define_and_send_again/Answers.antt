@@ -1,5 +1,5 @@
 use Rattle.std.proofs.Common.{[]}
-use Rattle.fp_site.specs.Memory.{memory_disk}
+use Rattle.memory_site.specs.Memory.{memory_disk}
 use Rattle.system_laws.specs.Stops.{HoldsOn, IsOnceOn, standing}
 use Rattle.fp_system.proofs.Results.{some_with}
 use Rattle.system_laws.proofs.lives.define_and_send_again.Goals as goal

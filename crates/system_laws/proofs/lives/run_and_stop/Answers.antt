@@ -1,5 +1,5 @@
-use Rattle.fp_site.specs.Memory.{memory_disk, memory_history}
-use Rattle.fp_site.specs.Sets.{snapshot_of}
+use Rattle.memory_site.specs.Memory.{memory_disk, memory_history}
+use Rattle.memory_site.specs.Sets.{snapshot_of}
 use Rattle.system_laws.specs.Stops as stops
 use Rattle.fp_system.proofs.Results.{ok_with}
 use Rattle.system_laws.proofs.StopLemmas.{begun_again, begun_holds, left_once}

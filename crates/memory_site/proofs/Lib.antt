@@ -1,0 +1,6 @@
+mod Untorn
+mod Crashes
+mod Choices
+mod Histories
+mod DataSets
+mod Padded

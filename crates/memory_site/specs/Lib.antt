@@ -1,0 +1,7 @@
+pub mod Calls
+pub mod Faults
+pub mod History
+pub mod Sets
+pub mod Laws
+pub mod Past
+pub mod Memory
