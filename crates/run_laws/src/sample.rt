@@ -2,7 +2,7 @@
 ghost use Rattle.std.specs.Prelude.{◌≡◌, List, map};
 ghost use Rattle.fp_model.specs.Machine.{Machine};
 ghost use Rattle.fp_model.specs.Runs.{RunStep, step_events, Runs};
-ghost use Rattle.serial_order.specs.Sample.{sample_rules, at_start, the_events, no_faults, the_entries};
+ghost use Rattle.run_laws.specs.Sample.{sample_rules, at_start, the_events, no_faults, the_entries};
 
 /// Three regions run four transactions in 33 turns. One waits; one closes a cycle, begins again and is refused at the
 /// same cycle; one has a verify that fails at its end, begins again and sees the change; one upgrades a lock. Then an

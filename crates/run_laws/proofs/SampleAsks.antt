@@ -12,7 +12,7 @@ use Rattle.fp_model.specs.Fsas.{list_text}
 use Rattle.fp_model.specs.Answers.{answered, showing, lettered, blank}
 use Rattle.fp_model.specs.Asking.{Asks, Replies, ask}
 use Rattle.fp_model.proofs.ProgramLemmas.{run_roll}
-use Rattle.serial_order.specs.Sample.{named, sample_defs, changing, crossing, verifying, upgrading}
+use Rattle.run_laws.specs.Sample.{named, sample_defs, changing, crossing, verifying, upgrading}
 
 -- the message of a terminal and a script
 abbrev pub from_terminal : List ℕ → List ℕ → List ℕ → Message
