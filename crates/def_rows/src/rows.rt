@@ -1,7 +1,7 @@
 //! Worked rows of the definitions, as theorems: each function has an empty body, and its `ensures` is the fact.
 ghost use Rattle.std.specs.Prelude.{◌≡◌, ◌++◌, [], Ok, Err, codes, pos};
 ghost use Rattle.def_tables.specs.declared.fault.DefsFault.TheVariants as fault;
-ghost use Rattle.fp_defs.specs.Sample.{sample, sample_text};
+ghost use Rattle.def_rows.specs.Sample.{sample, sample_text};
 ghost use Rattle.fp_defs.specs.Whole.{defs_of};
 
 /// The sample.
