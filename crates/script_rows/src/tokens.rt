@@ -1,5 +1,5 @@
-//! Worked rows of tokens. Those of scripts stand in the crate `script_rows`.
-#![tactic(auto, unfolding(crate::specs::Readings::all_by, crate::specs::Tokens::letter_token, crate::specs::Tokens::number_token, crate::specs::Tokens::text_token, crate::specs::Tokens::hash_token, crate::specs::Tokens::token_at, crate::specs::Tokens::spaced_token_at, crate::specs::Tokens::tokens_of))]
+//! Worked rows of tokens. Each is the contract of a function that does nothing.
+#![tactic(auto, unfolding(txn_tokens::specs::Readings::all_by, txn_tokens::specs::Tokens::letter_token, txn_tokens::specs::Tokens::number_token, txn_tokens::specs::Tokens::text_token, txn_tokens::specs::Tokens::hash_token, txn_tokens::specs::Tokens::token_at, txn_tokens::specs::Tokens::spaced_token_at, txn_tokens::specs::Tokens::tokens_of))]
 
 ghost use Rattle.std.specs.Prelude.{◌≡◌, ◌∷◌, [], codes, pos, negsuc, true, false, Ok, Err};
 ghost use Rattle.txn_tokens.specs.declared.fault.LineFault.TheVariants as line_fault;
