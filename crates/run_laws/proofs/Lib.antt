@@ -8,3 +8,4 @@ pub mod Plain
 pub mod OneValue
 pub mod SampleAsks
 pub mod SampleRun
+pub mod HoldingLemmas

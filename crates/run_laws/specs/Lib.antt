@@ -4,3 +4,4 @@ pub mod Lives
 pub mod Determined
 pub mod Starts
 pub mod Sample
+pub mod Holding

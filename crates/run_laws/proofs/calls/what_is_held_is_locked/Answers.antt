@@ -1,5 +1,5 @@
-use Rattle.dli_calls.proofs.HoldingLemmas.{begins_locked, reply_locked}
-use Rattle.dli_calls.proofs.laws.what_is_held_is_locked.Goals as goal
+use Rattle.run_laws.proofs.HoldingLemmas.{begins_locked, reply_locked}
+use Rattle.run_laws.proofs.calls.what_is_held_is_locked.Goals as goal
 
 pub returns-clause-begins : goal.returns-clause-begins
 returns-clause-begins c = begins_locked

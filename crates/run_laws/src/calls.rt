@@ -1,5 +1,5 @@
 //! A law of what calls are answered, the contract of a function that does nothing.
-ghost use Rattle.dli_calls.specs.Holding.{AreHeldLocked};
+ghost use Rattle.run_laws.specs.Holding.{AreHeldLocked};
 ghost use Rattle.fp_model.specs.DedbCalls.{dedb_need, dedb_reply};
 ghost use Rattle.fp_model.specs.Workspace.{Workspace, fresh};
 ghost use Rattle.fp_model.specs.declared.calls.Call.{Call};

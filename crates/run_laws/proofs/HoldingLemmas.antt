@@ -19,7 +19,7 @@ use Rattle.fp_model.specs.DedbCalls as dedb
 use Rattle.fp_model.specs.Order.{Occurrence, Place, Replaces, Step, is_sequential, key_in}
 use Rattle.fp_model.specs.Texts.{same_text}
 use Rattle.fp_model.specs.Workspace.{DedbPosition, Workspace, fresh, no_dedb_position}
-use Rattle.dli_calls.specs.Holding.{AreHeldLocked, place_held}
+use Rattle.run_laws.specs.Holding.{AreHeldLocked, place_held}
 
 -- ---- one position in place of another
 
