@@ -1,6 +1,6 @@
-//! Laws of machines and runs of this system: who is busy, who holds and asks, that what is held is locked, which messages
-//! are fresh, that a message takes effect at most once, and that events determine a run. One run is computed, so that
-//! they speak of something.
+//! Laws of machines and runs of this system: who is busy, who holds and asks, that what is held is locked, which
+//! messages are fresh, that a message takes effect at most once, and that events determine a run. One run is computed,
+//! so that they speak of something.
 //!
 //! The functions do nothing; their contracts are the laws.
 #![tactic(auto)]

@@ -1,5 +1,5 @@
-//! Worked rows of the script language: tokens, texts of the sample, and faults, computed on the definitions of `txn_lang`
-//! and `txn_tokens`. Each row is the contract of a function that does nothing.
+//! Worked rows of the script language: tokens, texts of the sample, and faults, computed on the definitions of
+//! `txn_lang` and `txn_tokens`. Each row is the contract of a function that does nothing.
 #![tactic(auto)]
 
 mod rows;
