@@ -1,6 +1,5 @@
 pub mod AnswerLemmas
 pub mod FitLemmas
-pub mod HoldingLemmas
 pub mod BeginLemmas
 pub mod ReadyLemmas
 pub mod StoreLemmas

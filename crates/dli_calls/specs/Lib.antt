@@ -1,4 +1,3 @@
-pub mod Holding
 pub mod Progress
 pub mod Readiness
 pub mod Replies

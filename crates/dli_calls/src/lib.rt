@@ -5,7 +5,6 @@
 
 mod answering;
 mod database;
-mod laws;
 mod letters;
 mod region_locks;
 mod reply;
@@ -13,6 +12,5 @@ mod replying;
 mod work;
 
 pub use answering::{Ready, answer};
-pub use laws::what_is_held_is_locked;
 pub use region_locks::RegionLocks;
 pub use work::{Parts, Work};

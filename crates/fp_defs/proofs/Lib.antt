@@ -1,4 +1,3 @@
-pub mod OnLiterals
 pub mod Loops
 pub mod WholeLemmas
 pub mod SegmentLemmas

@@ -3,5 +3,4 @@ pub mod Segments
 pub mod Areas
 pub mod Dedbs
 pub mod Whole
-pub mod Sample
 pub mod Exits

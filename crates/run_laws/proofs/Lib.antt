@@ -6,3 +6,6 @@ pub mod Once
 pub mod Lasting
 pub mod Plain
 pub mod OneValue
+pub mod SampleAsks
+pub mod SampleRun
+pub mod HoldingLemmas

@@ -3,3 +3,5 @@ pub mod Fresh
 pub mod Lives
 pub mod Determined
 pub mod Starts
+pub mod Sample
+pub mod Holding

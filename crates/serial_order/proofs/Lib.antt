@@ -14,5 +14,3 @@ pub mod Changes
 pub mod Settling
 pub mod Queue
 pub mod ProductLaws
-pub mod SampleAsks
-pub mod SampleRun

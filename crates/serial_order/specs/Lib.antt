@@ -1,4 +1,3 @@
 pub mod Laws
 pub mod Kept
 pub mod ProductView
-pub mod Sample

@@ -6,7 +6,6 @@
 
 mod any_rules;
 mod product;
-mod sample;
 
 pub use any_rules::{a_rest_is_kept, a_turn_keeps_the_order, every_run_is_serial};
 pub use product::{
@@ -14,4 +13,3 @@ pub use product::{
     calls_look_at_what_is_held, calls_rely_on_what_is_held, every_run_of_the_system_is_serial,
     settling_changes_what_is_held, the_system_keeps_the_laws,
 };
-pub use sample::a_run;

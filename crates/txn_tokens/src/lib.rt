@@ -13,7 +13,6 @@
 mod fault;
 mod lookups;
 mod parts;
-mod rows;
 mod token;
 mod tokens;
 mod written;
@@ -24,7 +23,6 @@ pub use parts::{
     comparison_at, count_at, fields_in, fsas_in, is_word, key_at, operand_at, operands_in,
     operation_at, ssas_in, variable_at, word_at,
 };
-pub use rows::{a_field_call_has_these_tokens, tokens_need_no_blanks};
 pub use token::Token;
 pub use tokens::{tokens_of, unblanked};
 pub use written::WrittenSsa;

@@ -1,0 +1,7 @@
+use Rattle.std.proofs.Common.{refl}
+use Rattle.def_rows.proofs.OnLiterals.{on_literals}
+use Rattle.def_rows.proofs.rows.an_element_has_its_sequential_pointer.Goals as goal
+
+pub returns : goal.returns
+unfolding on_literals
+returns c = refl

@@ -1,8 +1,0 @@
-use Rattle.dli_calls.proofs.HoldingLemmas.{begins_locked, reply_locked}
-use Rattle.dli_calls.proofs.laws.what_is_held_is_locked.Goals as goal
-
-pub returns-clause-begins : goal.returns-clause-begins
-returns-clause-begins c = begins_locked
-
-pub returns-clause-behind : goal.returns-clause-behind
-returns-clause-behind c def dedb db own held call none locked = reply_locked def dedb held db own locked call none

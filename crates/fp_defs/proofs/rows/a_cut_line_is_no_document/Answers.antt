@@ -1,7 +1,0 @@
-use Rattle.std.proofs.Common.{refl}
-use Rattle.fp_defs.proofs.OnLiterals.{on_literals}
-use Rattle.fp_defs.proofs.rows.a_cut_line_is_no_document.Goals as goal
-
-pub returns : goal.returns
-unfolding on_literals
-returns c = refl
