@@ -1,2 +1,3 @@
 pub mod Checkpoints
 pub mod LogRows
+pub mod Preferred

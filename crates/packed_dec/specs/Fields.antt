@@ -1,8 +1,5 @@
--- Fields that are written, and the preferred form of a field that stands.
-use Rattle.std.specs.Prelude.{◌≡◌, ℕ, ◌+◌, ◌*◌, ◌/◌, List, [], ◌∷◌, Bool, true, false, ℤ, Option, Some, None}
-use Rattle.fp_model.specs.Numbers.{sign_of}
-use Rattle.fp_model.specs.declared.definitions.FieldKind.{FieldKind}
-use Rattle.fp_model.specs.declared.definitions.FieldKind.TheVariants.{C, X, H, F, P}
+-- Fields that are written.
+use Rattle.std.specs.Prelude.{◌≡◌, ℕ, List, Bool, true, false, Option, Some, None}
 
 -- True where the number has a form, and then that form stands; else false, and the bytes are as they were.
 abbrev pub Writes : Bool → List ℕ → List ℕ → Option (List ℕ) → Type 0
@@ -10,17 +7,3 @@ Writes true old new (Some form) = new ≡ form
 Writes false old new None = new ≡ old
 Writes true old new None = ⊥
 Writes false old new (Some form) = ⊥
-
--- packed bytes with another sign
-abbrev pub signed_as : ℕ → List ℕ → List ℕ
-signed_as sign [] = []
-signed_as sign (b ∷ []) = (b / 16 * 16 + sign) ∷ []
-signed_as sign (b ∷ c ∷ bs) = b ∷ signed_as sign (c ∷ bs)
-
--- the preferred bytes of the number that bytes are: of a packed one the sign alone may change
-abbrev pub preferred : FieldKind → ℤ → List ℕ → List ℕ
-preferred P n bytes = signed_as (sign_of n) bytes
-preferred C n bytes = bytes
-preferred X n bytes = bytes
-preferred H n bytes = bytes
-preferred F n bytes = bytes

@@ -25,10 +25,8 @@
 //! Nothing here takes memory.
 #![tactic(auto)]
 
-mod laws;
 mod reading;
 mod writing;
 
-pub use laws::{what_is_read_is_written_in_its_preferred_form, what_is_written_reads_back};
 pub use reading::read_number;
 pub use writing::write_number;

@@ -1,5 +1,5 @@
 -- What is held stays locked: behind each reply of a data entry database.
-use Rattle.std.proofs.Common.{◌≡◌, ◌∙◌, ℕ, zero, suc, List, [], ◌∷◌, map, Option, Some, None, refl, sym, ap, subst, Bool, true, false, ◌||◌, ◌==◌, ◌⊎◌, inl, inr, slice_get, slice_set, arith}
+use Rattle.std.proofs.Common.{◌≡◌, ◌∙◌, ℕ, zero, suc, List, [], ◌∷◌, map, Option, Some, None, refl, sym, ap, subst, Bool, true, false, ◌||◌, ◌⊎◌, inl, inr, slice_get, slice_set}
 use Rattle.std.specs.Prelude.{if◌then◌else◌, not, is_some, option_map, unwrap_or, codes}
 use Rattle.std.specs.Option.{option_map_or}
 use Rattle.fp_model.specs.declared.calls.Call.{Call}
@@ -19,7 +19,7 @@ use Rattle.fp_model.specs.DedbCalls as dedb
 use Rattle.fp_model.specs.Order.{Occurrence, Place, Replaces, Step, is_sequential, key_in}
 use Rattle.fp_model.specs.Texts.{same_text}
 use Rattle.fp_model.specs.Workspace.{DedbPosition, Workspace, fresh, no_dedb_position}
-use Rattle.run_laws.specs.Holding.{AreHeldLocked, place_held}
+use Rattle.run_laws.specs.Holding.{AreHeldLocked}
 
 -- ---- one position in place of another
 

@@ -1,5 +1,5 @@
 use Rattle.packed_dec.proofs.ReadsBack.{reads_back}
-use Rattle.packed_dec.proofs.laws.what_is_written_reads_back.Goals as goal
+use Rattle.byte_rows.proofs.laws.what_is_written_reads_back.Goals as goal
 
 pub returns : goal.returns
 returns c = reads_back

@@ -1,7 +1,7 @@
 //! What reading and writing have to do with each other, each law the contract of a function that does nothing.
 ghost use Rattle.fp_model.specs.Numbers.{bytes_of, number};
 ghost use Rattle.fp_model.specs.declared.definitions.FieldKind.{FieldKind};
-ghost use Rattle.packed_dec.specs.Fields.{preferred};
+ghost use Rattle.byte_rows.specs.Preferred.{preferred};
 ghost use Rattle.std.specs.Prelude.{◌≡◌, ◌<◌, ℕ, ℤ, List, Some, length, slice_index};
 
 /// The form of a number in a field fills the field, and is read as that number.
