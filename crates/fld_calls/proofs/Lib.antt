@@ -1,6 +1,7 @@
 pub mod Comparing
 pub mod Digits
 mod Fronts
+mod Heads
 pub mod Kept
 pub mod Letters
 mod ListBytes

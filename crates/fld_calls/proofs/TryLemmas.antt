@@ -1,5 +1,5 @@
 -- One argument on a segment, from what becomes of its field.
-use Rattle.std.proofs.Common.{◌≡◌, refl, sym, ap, ◌∙◌, arith, append_assoc, ℕ, ◌+◌, ◌≤◌, List, [], ◌∷◌, ◌++◌, length, take, drop, Bool, true, false, ◌||◌, ◌==◌, if◌then◌else◌, Option, Some, None}
+use Rattle.std.proofs.Common.{◌≡◌, refl, sym, ap, ◌∙◌, arith, append_assoc, ℕ, ◌+◌, ◌-◌, ◌≤◌, List, [], ◌∷◌, ◌++◌, length, take, drop, Bool, true, false, ◌||◌, ◌==◌, if◌then◌else◌, Option, Some, None}
 use Rattle.std.specs.Prelude.{Result, Ok, Err, OnErr, OnOk, ⊤}
 use Rattle.std.proofs.lemmas.List.{take-append-drop, drop-drop}
 use Rattle.fp_model.specs.declared.definitions.FieldDef.{FieldDef}
@@ -76,6 +76,13 @@ no_operation def fsa segment e = rw e refl
 pub no_field : (def : MsdbDef) (fsa : Fsa) (segment : List ℕ) → (is_verify fsa.op || is_change fsa.op) ≡ true
     → None ≡ field_of def.fields fsa.field → letter_of def fsa segment ≡ 72
 no_field def fsa segment known e = rw (known, sym e) refl
+
+-- the bytes of a field, by its place and its length in other words
+pub window : (field : FieldDef) (segment : List ℕ) (at size : ℕ) → at ≡ field.at → size ≡ field.length
+    → take (at + size - at) (drop at segment) ≡ field_bytes field segment
+window field segment at size a s =
+    let many : at + size - at ≡ field.length = omega (arith, s) in
+    ap (λ (n : ℕ). take n (drop at segment)) many ∙ ap (λ (n : ℕ). take field.length (drop n segment)) a
 
 -- a segment with bytes put in a field
 module _ (field : FieldDef) (segment new : List ℕ) (long : length new ≡ field.length) where

@@ -1,6 +1,6 @@
 //! Field search arguments as bytes.
 ghost use Rattle.std.specs.List.{AllByRecursion};
-ghost use Rattle.std.specs.Prelude.{◌≡◌, ◌+◌, ◌<◌, ◌^◌, ◌++◌, ◌∷◌, [], if◌then◌else◌, IfNone, IfOk, IfSome, None, OnOk, Some, length};
+ghost use Rattle.std.specs.Prelude.{◌≡◌, ◌+◌, ◌<◌, ◌^◌, ◌++◌, ◌∷◌, [], if◌then◌else◌, IfNone, IfOk, IfSome, None, OnOk, Some, length, slice_index, take};
 ghost use Rattle.fp_model.specs.Fsas.{behind, connector_in, fsa_in, fsa_text, fsas_of, list_text, operand_length};
 ghost use Rattle.fld_calls.specs.Forms.{forms, is_last, lent_form_of, IsReadAs, IsShort};
 
@@ -16,6 +16,19 @@ pub(crate) struct Front<'a> {
     pub(crate) rest: &'a [u8],
 }
 
+// The field's name, the status, the operation and the operand's length that an argument begins with.
+fn parts_of(head: &[u8; 12]) -> (Name, u8, u8, usize)
+    ensures field { result.0.0 ≡ take 8 head.now }
+    ensures status { result.1 ≡ slice_index head.now 8 }
+    ensures op { result.2 ≡ slice_index head.now 9 }
+    ensures length { result.3 ≡ operand_length head.now }
+    ensures short { result.3 < 65536 }
+{
+    let [a, b, c, d, e, f, g, h, status, op, high, low] = *head;
+    let length = usize::from(high) * 256 + usize::from(low);
+    (Name([a, b, c, d, e, f, g, h]), status, op, length)
+}
+
 // What bytes begin with. None where they end in the argument or before its connector.
 pub(crate) fn front_of(bytes: &[u8]) -> Option<Front<'_>>
     ensures none { IfNone result (connector_in bytes.now ≡ None) }
@@ -27,18 +40,16 @@ pub(crate) fn front_of(bytes: &[u8]) -> Option<Front<'_>>
     ensures all { IfSome result (λ front. length bytes.now ≡ 13 + length front.fsa.operand.now + length
         front.rest.now) }
 {
-    let [a, b, c, d, e, f, g, h, status, op, high, low, rest @ ..] = bytes else {
-        return None;
-    };
-    let length = usize::from(*high) * 256 + usize::from(*low);
+    let (head, rest) = bytes.split_first_chunk::<12>()?;
+    let (field, status, op, length) = parts_of(head);
     if rest.len() <= length {
         return None;
     }
     Some(Front {
         fsa: LentFsa {
-            field: Name([*a, *b, *c, *d, *e, *f, *g, *h]),
-            status: *status,
-            op: *op,
+            field,
+            status,
+            op,
             operand: &rest[..length],
         },
         connector: rest[length],

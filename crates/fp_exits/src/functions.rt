@@ -29,9 +29,9 @@ pub fn range_place(key: &[u8], n: u64) -> u64
     ensures exact { result ≡ spread Kind.Range n key.now }
     ensures below { result < n }
 {
-    let byte = |at: usize| u64::from(key.get(at).copied().unwrap_or(0));
-    let first_four = ((byte(0) * 256 + byte(1)) * 256 + byte(2)) * 256 + byte(3);
-    first_four * n / 4_294_967_296
+    let byte = |at: usize| key.get(at).copied().unwrap_or(0);
+    let first_four = u32::from_be_bytes([byte(0), byte(1), byte(2), byte(3)]);
+    u64::from(first_four) * n / 4_294_967_296
 }
 
 /// The group of a transaction among `n`, counted from 0, by `Kind::Fold`: its name without blanks, folded.
@@ -58,9 +58,9 @@ pub fn range_group(tran: &Name, n: u64) -> u64
     ensures exact { result ≡ route Kind.Range n tran.now }
     ensures below { result < n }
 {
-    let byte = |at: u64| u64::from(letter(tran, at));
-    let first_four = ((byte(0) * 256 + byte(1)) * 256 + byte(2)) * 256 + byte(3);
-    first_four * n / 4_294_967_296
+    let byte = |at: u64| letter(tran, at);
+    let first_four = u32::from_be_bytes([byte(0), byte(1), byte(2), byte(3)]);
+    u64::from(first_four) * n / 4_294_967_296
 }
 
 // The byte at a place of a name without its blanks; 0 behind the last.

@@ -1,3 +1,4 @@
 pub mod Pieces
 pub mod Calls
+pub mod Errs
 pub mod LineLemmas

@@ -1,17 +1,36 @@
-use Rattle.std.proofs.Common.{◌≡◌, ℕ, List, length-drop, ◌+◌, ◌*◌, ◌-◌, length, take, drop, sym, ap, ◌∙◌, arith, rules}
-use Rattle.std.proofs.lemmas.List.{take_all, drop-drop}
-use Rattle.fp_model.specs.Fsas.{operand_length}
+use Rattle.std.proofs.Common.{sym, ◌∙◌, arith}
+use Rattle.std.proofs.lemmas.List.{length-take-le}
+use Rattle.fld_calls.proofs.Heads.{same_length, no_connector, connector_found, first_found, left_behind}
 use Rattle.fld_calls.proofs.layout.front_of.Goals as goal
+
+pub returns-then-rest-length-clause-none : goal.returns-then-rest-length-clause-none
+returns-then-rest-length-clause-none c =
+    let cut = c.in_ok-head.ensures.cases in
+    no_connector c.args.bytes.now c.in_ok-head.head.now c.in_ok-head.rest.now c.parts_of-status.result.3 cut.0 cut.1
+    cut.2 c.parts_of-status.ensures.length c.if-rest-length.true
+
+pub returns-clause-connector : goal.returns-clause-connector
+returns-clause-connector c =
+    let cut = c.in_ok-head.ensures.cases in
+    connector_found c.args.bytes.now c.in_ok-head.head.now c.in_ok-head.rest.now c.parts_of-status.result.3 cut.0 cut.1
+    cut.2 c.parts_of-status.ensures.length (omega (arith, c.if-rest-length.false))
+
+pub returns-clause-fsa : goal.returns-clause-fsa
+returns-clause-fsa c =
+    let cut = c.in_ok-head.ensures.cases in
+    let parts = c.parts_of-status.ensures in
+    first_found c.args.bytes.now c.in_ok-head.head.now c.in_ok-head.rest.now c.parts_of-status.result.3 cut.0 cut.1
+    cut.2 parts.length _ _ _ parts.field parts.status parts.op
+
+pub returns-clause-operand : goal.returns-clause-operand
+returns-clause-operand c =
+    let cut = c.in_ok-head.ensures.cases in
+    sym (length-take-le c.parts_of-status.result.3 c.in_ok-head.rest.now (omega (arith, c.if-rest-length.false))
+    ∙ same_length c.args.bytes.now c.in_ok-head.head.now c.in_ok-head.rest.now c.parts_of-status.result.3 cut.0 cut.1
+    cut.2 c.parts_of-status.ensures.length)
 
 pub returns-clause-rest : goal.returns-clause-rest
 returns-clause-rest c =
-    let is : operand_length c.args.bytes.now ≡ c.from.result * 256 + c.from-2.result = search rules in
-    let n = c.from.result * 256 + c.from-2.result in
-    let bytes = c.args.bytes.now in
-    let all : take (length bytes - 12) (drop 12 bytes) ≡ drop 12 bytes =
-    take_all (length bytes - 12) (drop 12 bytes) (omega (arith, length-drop 12 bytes)) in
-    let next : 13 + n ≡ 12 + (n + 1) = omega arith in
-    ap (λ (k : ℕ). drop (13 + k) bytes) is ∙ ap (λ (k : ℕ). drop k bytes) next ∙ sym (drop-drop (n + 1) 12 bytes)
-    ∙ sym (ap (λ (xs : List ℕ). take (length xs - (n + 1)) (drop (n + 1) xs)) all ∙ take_all
-    (length (drop 12 bytes) - (n + 1)) (drop (n + 1) (drop 12 bytes))
-    (omega (arith, length-drop (n + 1) (drop 12 bytes))))
+    let cut = c.in_ok-head.ensures.cases in
+    left_behind c.args.bytes.now c.in_ok-head.head.now c.in_ok-head.rest.now c.parts_of-status.result.3 cut.0 cut.1
+    cut.2 c.parts_of-status.ensures.length (omega (arith, c.if-rest-length.false))

@@ -1,8 +1,31 @@
 use Rattle.std.proofs.Common.{◌≡◌, ◌∙◌, ◌++◌, [], take, refl, sym, arith}
 use Rattle.std.proofs.lemmas.List.{append-nil}
+use Rattle.fp_source.proofs.Errs.{nothing_if, nothing_on, memory_not_long, memory_not_failed, failed_not_long, failed_is}
 use Rattle.fp_source.proofs.Pieces.{rose_since}
 use Rattle.fp_source.proofs.Calls.{reads_none, reads_on, piece_more, more_than, front_kept, some_kept, within}
 use Rattle.fp_source.proofs.whole_part.whole.Goals as goal
+
+pub returns-in_err-block-clause-bytes : goal.returns-in_err-block-clause-bytes
+returns-in_err-block-clause-bytes g c = λ t. nothing_if c.from_residual.result _ c.from_residual.ensures.0
+
+pub returns-in_err-block-clause-end : goal.returns-in_err-block-clause-end
+returns-in_err-block-clause-end g c = λ t. nothing_on c.from_residual.result _ c.from_residual.ensures.0
+
+pub returns-in_err-block-clause-limit : goal.returns-in_err-block-clause-limit
+returns-in_err-block-clause-limit g c = nothing_if c.from_residual.result _ c.from_residual.ensures.0
+
+pub returns-in_err-block-clause-too_long : goal.returns-in_err-block-clause-too_long
+returns-in_err-block-clause-too_long g c = λ t e. absurd (memory_not_long c.from_residual.result c.from_residual.ensures.1 e)
+
+pub returns-in_err-block-clause-cause : goal.returns-in_err-block-clause-cause
+returns-in_err-block-clause-cause g c = λ e. absurd (memory_not_failed c.from_residual.result c.from_residual.ensures.1 e)
+
+pub returns-in_err-block-clause-stayed : goal.returns-in_err-block-clause-stayed
+returns-in_err-block-clause-stayed g c = λ e. refl
+
+pub returns-in_err-block-clause-source : goal.returns-in_err-block-clause-source
+returns-in_err-block-clause-source g c = reads_none g.S.Source.told g.S.Source.left g.S.Source.faults g.S.Source.holds
+    g.S.Source.keeps c.args.part c.args.source.now
 
 pub loop-bytes-init : goal.loop-bytes-init
 loop-bytes-init g c = record {
@@ -14,6 +37,21 @@ loop-bytes-init g c = record {
   calm = refl;
 }
 
+pub returns-in_err-count-clause-bytes : goal.returns-in_err-count-clause-bytes
+returns-in_err-count-clause-bytes g c = λ t. nothing_if c.from_residual-in_err-count.result _ c.from_residual-in_err-count.ensures.0
+
+pub returns-in_err-count-clause-end : goal.returns-in_err-count-clause-end
+returns-in_err-count-clause-end g c = λ t. nothing_on c.from_residual-in_err-count.result _ c.from_residual-in_err-count.ensures.0
+
+pub returns-in_err-count-clause-limit : goal.returns-in_err-count-clause-limit
+returns-in_err-count-clause-limit g c = nothing_if c.from_residual-in_err-count.result _ c.from_residual-in_err-count.ensures.0
+
+pub returns-in_err-count-clause-too_long : goal.returns-in_err-count-clause-too_long
+returns-in_err-count-clause-too_long g c = λ t e. absurd (failed_not_long c.from_residual-in_err-count.result c.from_residual-in_err-count.ensures.1 e)
+
+pub returns-in_err-count-clause-stayed : goal.returns-in_err-count-clause-stayed
+returns-in_err-count-clause-stayed g c = λ no. absurd (no (failed_is c.from_residual-in_err-count.result c.from_residual-in_err-count.ensures.1))
+
 pub returns-in_err-count-clause-cause : goal.returns-in_err-count-clause-cause
 returns-in_err-count-clause-cause g c = λ e. rose_since _ _ _ c.loop-bytes.invariant.source.later
     c.in_err-count.ensures.cause.rose
@@ -21,8 +59,8 @@ returns-in_err-count-clause-cause g c = λ e. rose_since _ _ _ c.loop-bytes.inva
 pub returns-in_err-count-clause-source : goal.returns-in_err-count-clause-source
 returns-in_err-count-clause-source g c =
     let call = c.read.ensures in
-    reads_on g.S.Source.told g.S.Source.left g.S.Source.faults g.S.Source.holds g.S.Source.keeps c.args.part _ _ _
-    c.loop-bytes.invariant.source call.cause.later call.others call.told call.holds call.keeps
+    reads_on g.S.Source.told g.S.Source.left g.S.Source.faults g.S.Source.holds g.S.Source.keeps c.args.part
+    c.args.source.now c.loop-bytes.source c.read.new.self c.loop-bytes.invariant.source call.cause.later call.others call.told call.holds call.keeps
 
 pub returns-then-count-eq0-clause-bytes : goal.returns-then-count-eq0-clause-bytes
 returns-then-count-eq0-clause-bytes g c = λ t.
@@ -46,8 +84,8 @@ returns-then-count-eq0-clause-end g c = λ t.
 pub returns-then-count-eq0-clause-source : goal.returns-then-count-eq0-clause-source
 returns-then-count-eq0-clause-source g c =
     let call = c.read.ensures in
-    reads_on g.S.Source.told g.S.Source.left g.S.Source.faults g.S.Source.holds g.S.Source.keeps c.args.part _ _ _
-    c.loop-bytes.invariant.source call.cause.later call.others call.told call.holds call.keeps
+    reads_on g.S.Source.told g.S.Source.left g.S.Source.faults g.S.Source.holds g.S.Source.keeps c.args.part
+    c.args.source.now c.loop-bytes.source c.read.new.self c.loop-bytes.invariant.source call.cause.later call.others call.told call.holds call.keeps
 
 pub returns-then-count-limit-clause-too_long : goal.returns-then-count-limit-clause-too_long
 returns-then-count-limit-clause-too_long g c = λ t e.
@@ -59,8 +97,8 @@ returns-then-count-limit-clause-too_long g c = λ t e.
 pub returns-then-count-limit-clause-source : goal.returns-then-count-limit-clause-source
 returns-then-count-limit-clause-source g c =
     let call = c.read.ensures in
-    reads_on g.S.Source.told g.S.Source.left g.S.Source.faults g.S.Source.holds g.S.Source.keeps c.args.part _ _ _
-    c.loop-bytes.invariant.source call.cause.later call.others call.told call.holds call.keeps
+    reads_on g.S.Source.told g.S.Source.left g.S.Source.faults g.S.Source.holds g.S.Source.keeps c.args.part
+    c.args.source.now c.loop-bytes.source c.read.new.self c.loop-bytes.invariant.source call.cause.later call.others call.told call.holds call.keeps
 
 pub loop-bytes-preserved : goal.loop-bytes-preserved
 loop-bytes-preserved g c =
@@ -92,5 +130,23 @@ loop-bytes-preserved g c =
 pub returns-in_err-append-clause-source : goal.returns-in_err-append-clause-source
 returns-in_err-append-clause-source g c =
     let call = c.read.ensures in
-    reads_on g.S.Source.told g.S.Source.left g.S.Source.faults g.S.Source.holds g.S.Source.keeps c.args.part _ _ _
-    c.loop-bytes.invariant.source call.cause.later call.others call.told call.holds call.keeps
+    reads_on g.S.Source.told g.S.Source.left g.S.Source.faults g.S.Source.holds g.S.Source.keeps c.args.part
+    c.args.source.now c.loop-bytes.source c.read.new.self c.loop-bytes.invariant.source call.cause.later call.others call.told call.holds call.keeps
+
+pub returns-in_err-append-clause-bytes : goal.returns-in_err-append-clause-bytes
+returns-in_err-append-clause-bytes g c = λ t. nothing_if c.from_residual-in_err-append.result _ c.from_residual-in_err-append.ensures.0
+
+pub returns-in_err-append-clause-end : goal.returns-in_err-append-clause-end
+returns-in_err-append-clause-end g c = λ t. nothing_on c.from_residual-in_err-append.result _ c.from_residual-in_err-append.ensures.0
+
+pub returns-in_err-append-clause-limit : goal.returns-in_err-append-clause-limit
+returns-in_err-append-clause-limit g c = nothing_if c.from_residual-in_err-append.result _ c.from_residual-in_err-append.ensures.0
+
+pub returns-in_err-append-clause-too_long : goal.returns-in_err-append-clause-too_long
+returns-in_err-append-clause-too_long g c = λ t e. absurd (memory_not_long c.from_residual-in_err-append.result c.from_residual-in_err-append.ensures.1 e)
+
+pub returns-in_err-append-clause-cause : goal.returns-in_err-append-clause-cause
+returns-in_err-append-clause-cause g c = λ e. absurd (memory_not_failed c.from_residual-in_err-append.result c.from_residual-in_err-append.ensures.1 e)
+
+pub returns-in_err-append-clause-stayed : goal.returns-in_err-append-clause-stayed
+returns-in_err-append-clause-stayed g c = λ e. c.in_ok-count.ensures.cause.stayed ∙ c.loop-bytes.invariant.calm

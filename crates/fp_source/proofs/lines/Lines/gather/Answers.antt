@@ -4,9 +4,63 @@ use Rattle.fp_source.specs.declared.lines.LineFault.{LineFault}
 use Rattle.fp_source.specs.declared.lines.LineFault.TheVariants.{TooLong}
 use Rattle.fp_source.specs.declared.part.Part.TheVariants.{Messages}
 use Rattle.fp_source.specs.Lines.{buffered, to_come}
+use Rattle.fp_source.proofs.Errs.{nothing_if, nothing_on, no_long_line, no_line_too_many}
 use Rattle.fp_source.proofs.Pieces.{plain_append, long_extended}
 use Rattle.fp_source.proofs.Calls.{reads_joined}
 use Rattle.fp_source.proofs.lines.Lines.gather.Goals as goal
+
+pub returns-in_err-fill-clause-by_newline : goal.returns-in_err-fill-clause-by_newline
+returns-in_err-fill-clause-by_newline g c = λ t. nothing_if c.from_residual.result _ c.from_residual.ensures.0
+
+pub returns-in_err-fill-clause-at_end : goal.returns-in_err-fill-clause-at_end
+returns-in_err-fill-clause-at_end g c = λ t. nothing_if c.from_residual.result _ c.from_residual.ensures.0
+
+pub returns-in_err-fill-clause-ended : goal.returns-in_err-fill-clause-ended
+returns-in_err-fill-clause-ended g c = λ t. nothing_if c.from_residual.result _ c.from_residual.ensures.0
+
+pub returns-in_err-fill-clause-plain : goal.returns-in_err-fill-clause-plain
+returns-in_err-fill-clause-plain g c = nothing_on c.from_residual.result _ c.from_residual.ensures.0
+
+pub returns-in_err-fill-clause-short : goal.returns-in_err-fill-clause-short
+returns-in_err-fill-clause-short g c = nothing_on c.from_residual.result _ c.from_residual.ensures.0
+
+pub returns-in_err-fill-clause-calm : goal.returns-in_err-fill-clause-calm
+returns-in_err-fill-clause-calm g c = nothing_on c.from_residual.result _ c.from_residual.ensures.0
+
+pub returns-in_err-fill-clause-too_long : goal.returns-in_err-fill-clause-too_long
+returns-in_err-fill-clause-too_long g c = λ t n e. absurd (no_long_line c.from_residual.result n c.from_residual.ensures.1 e)
+
+pub returns-in_err-fill-clause-number : goal.returns-in_err-fill-clause-number
+returns-in_err-fill-clause-number g c = λ n e. absurd (no_long_line c.from_residual.result n c.from_residual.ensures.1 e)
+
+pub returns-in_err-fill-clause-not_many : goal.returns-in_err-fill-clause-not_many
+returns-in_err-fill-clause-not_many g c = λ n e. no_line_too_many c.from_residual.result n c.from_residual.ensures.1 e
+
+pub returns-in_err-fill-clause-given : goal.returns-in_err-fill-clause-given
+returns-in_err-fill-clause-given g c = c.in_err-fill.ensures.given ∙ c.loop-self.invariant.given
+
+pub returns-in_err-fill-clause-source : goal.returns-in_err-fill-clause-source
+returns-in_err-fill-clause-source g c = reads_joined g.S.Source.told g.S.Source.left g.S.Source.faults g.S.Source.holds
+    g.S.Source.keeps Messages c.args.source.now c.loop-self.source c.fill.new.source c.loop-self.invariant.source
+    c.in_err-fill.ensures.source
+
+pub returns-in_err-take_part-clause-by_newline : goal.returns-in_err-take_part-clause-by_newline
+returns-in_err-take_part-clause-by_newline g c = λ t. nothing_if c.from_residual-in_err-take_part.result _ c.from_residual-in_err-take_part.ensures.0
+
+pub returns-in_err-take_part-clause-at_end : goal.returns-in_err-take_part-clause-at_end
+returns-in_err-take_part-clause-at_end g c = λ t. nothing_if c.from_residual-in_err-take_part.result _ c.from_residual-in_err-take_part.ensures.0
+
+pub returns-in_err-take_part-clause-ended : goal.returns-in_err-take_part-clause-ended
+returns-in_err-take_part-clause-ended g c = λ t. nothing_if c.from_residual-in_err-take_part.result _ c.from_residual-in_err-take_part.ensures.0
+
+pub returns-in_err-take_part-clause-plain : goal.returns-in_err-take_part-clause-plain
+returns-in_err-take_part-clause-plain g c = nothing_on c.from_residual-in_err-take_part.result _ c.from_residual-in_err-take_part.ensures.0
+
+pub returns-in_err-take_part-clause-short : goal.returns-in_err-take_part-clause-short
+returns-in_err-take_part-clause-short g c = nothing_on c.from_residual-in_err-take_part.result _ c.from_residual-in_err-take_part.ensures.0
+
+pub returns-in_err-take_part-clause-calm : goal.returns-in_err-take_part-clause-calm
+returns-in_err-take_part-clause-calm g c = nothing_on c.from_residual-in_err-take_part.result _ c.from_residual-in_err-take_part.ensures.0
 
 pub returns-in_err-take_part-clause-too_long : goal.returns-in_err-take_part-clause-too_long
 returns-in_err-take_part-clause-too_long g c = λ t n e.

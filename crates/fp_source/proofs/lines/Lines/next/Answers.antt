@@ -4,9 +4,79 @@ use Rattle.fp_source.specs.declared.part.Part.TheVariants.{Messages}
 use Rattle.fp_source.specs.declared.lines.LineFault.{LineFault}
 use Rattle.fp_source.specs.declared.lines.LineFault.TheVariants.{TooLong}
 use Rattle.fp_source.specs.Lines.{buffered, to_come}
+use Rattle.fp_source.proofs.Errs.{nothing_if, nothing_on, no_long_line, no_line_too_many}
 use Rattle.fp_source.proofs.LineLemmas.{Begins, line_given, fault_stays, many_ahead, long_ahead}
 use Rattle.fp_source.proofs.lines.Lines.next.Given.{Over}
 use Rattle.fp_source.proofs.lines.Lines.next.Goals as goal
+
+pub returns-in_err-fill-clause-line : goal.returns-in_err-fill-clause-line
+returns-in_err-fill-clause-line g c = λ t. nothing_if c.from_residual.result _ c.from_residual.ensures.0
+
+pub returns-in_err-fill-clause-fair : goal.returns-in_err-fill-clause-fair
+returns-in_err-fill-clause-fair g c = λ t. nothing_if c.from_residual.result _ c.from_residual.ensures.0
+
+pub returns-in_err-fill-clause-none : goal.returns-in_err-fill-clause-none
+returns-in_err-fill-clause-none g c = λ t. nothing_if c.from_residual.result _ c.from_residual.ensures.0
+
+pub returns-in_err-fill-clause-ended : goal.returns-in_err-fill-clause-ended
+returns-in_err-fill-clause-ended g c = λ t. nothing_if c.from_residual.result _ c.from_residual.ensures.0
+
+pub returns-in_err-fill-clause-short : goal.returns-in_err-fill-clause-short
+returns-in_err-fill-clause-short g c = nothing_if c.from_residual.result _ c.from_residual.ensures.0
+
+pub returns-in_err-fill-clause-given : goal.returns-in_err-fill-clause-given
+returns-in_err-fill-clause-given g c = nothing_if c.from_residual.result _ c.from_residual.ensures.0
+
+pub returns-in_err-fill-clause-few : goal.returns-in_err-fill-clause-few
+returns-in_err-fill-clause-few g c = nothing_if c.from_residual.result _ c.from_residual.ensures.0
+
+pub returns-in_err-fill-clause-still : goal.returns-in_err-fill-clause-still
+returns-in_err-fill-clause-still g c = nothing_if c.from_residual.result _ c.from_residual.ensures.0
+
+pub returns-in_err-fill-clause-calm : goal.returns-in_err-fill-clause-calm
+returns-in_err-fill-clause-calm g c = nothing_on c.from_residual.result _ c.from_residual.ensures.0
+
+pub returns-in_err-fill-clause-too_long : goal.returns-in_err-fill-clause-too_long
+returns-in_err-fill-clause-too_long g c = λ t n e. absurd (no_long_line c.from_residual.result n c.from_residual.ensures.1 e)
+
+pub returns-in_err-fill-clause-too_many : goal.returns-in_err-fill-clause-too_many
+returns-in_err-fill-clause-too_many g c = λ t n e. absurd (no_line_too_many c.from_residual.result n c.from_residual.ensures.1 e)
+
+pub returns-in_err-fill-clause-long_number : goal.returns-in_err-fill-clause-long_number
+returns-in_err-fill-clause-long_number g c = λ n e. absurd (no_long_line c.from_residual.result n c.from_residual.ensures.1 e)
+
+pub returns-in_err-fill-clause-last_number : goal.returns-in_err-fill-clause-last_number
+returns-in_err-fill-clause-last_number g c = λ n e. absurd (no_line_too_many c.from_residual.result n c.from_residual.ensures.1 e)
+
+pub returns-in_err-fill-clause-source : goal.returns-in_err-fill-clause-source
+returns-in_err-fill-clause-source g c = c.in_err-fill.ensures.source
+
+pub returns-in_err-by_newline-clause-line : goal.returns-in_err-by_newline-clause-line
+returns-in_err-by_newline-clause-line g c = λ t. nothing_if c.from_residual-in_err-by_newline.result _ c.from_residual-in_err-by_newline.ensures.0
+
+pub returns-in_err-by_newline-clause-fair : goal.returns-in_err-by_newline-clause-fair
+returns-in_err-by_newline-clause-fair g c = λ t. nothing_if c.from_residual-in_err-by_newline.result _ c.from_residual-in_err-by_newline.ensures.0
+
+pub returns-in_err-by_newline-clause-none : goal.returns-in_err-by_newline-clause-none
+returns-in_err-by_newline-clause-none g c = λ t. nothing_if c.from_residual-in_err-by_newline.result _ c.from_residual-in_err-by_newline.ensures.0
+
+pub returns-in_err-by_newline-clause-ended : goal.returns-in_err-by_newline-clause-ended
+returns-in_err-by_newline-clause-ended g c = λ t. nothing_if c.from_residual-in_err-by_newline.result _ c.from_residual-in_err-by_newline.ensures.0
+
+pub returns-in_err-by_newline-clause-short : goal.returns-in_err-by_newline-clause-short
+returns-in_err-by_newline-clause-short g c = nothing_if c.from_residual-in_err-by_newline.result _ c.from_residual-in_err-by_newline.ensures.0
+
+pub returns-in_err-by_newline-clause-given : goal.returns-in_err-by_newline-clause-given
+returns-in_err-by_newline-clause-given g c = nothing_if c.from_residual-in_err-by_newline.result _ c.from_residual-in_err-by_newline.ensures.0
+
+pub returns-in_err-by_newline-clause-few : goal.returns-in_err-by_newline-clause-few
+returns-in_err-by_newline-clause-few g c = nothing_if c.from_residual-in_err-by_newline.result _ c.from_residual-in_err-by_newline.ensures.0
+
+pub returns-in_err-by_newline-clause-still : goal.returns-in_err-by_newline-clause-still
+returns-in_err-by_newline-clause-still g c = nothing_if c.from_residual-in_err-by_newline.result _ c.from_residual-in_err-by_newline.ensures.0
+
+pub returns-in_err-by_newline-clause-calm : goal.returns-in_err-by_newline-clause-calm
+returns-in_err-by_newline-clause-calm g c = nothing_on c.from_residual-in_err-by_newline.result _ c.from_residual-in_err-by_newline.ensures.0
 
 pub returns-then-self-eq-MOST_LINES-clause-too_many : goal.returns-then-self-eq-MOST_LINES-clause-too_many
 returns-then-self-eq-MOST_LINES-clause-too_many g c = λ t n e.

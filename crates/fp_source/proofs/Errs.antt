@@ -1,0 +1,49 @@
+-- Results that are an Err of one kind, and so of no other.
+use Rattle.std.proofs.Common.{◌≡◌, ℕ}
+use Rattle.std.specs.Prelude.{Result, Ok, Err, IfOk, OnOk, IsErr, IsErrOf}
+use Rattle.std.specs.Result.{IsErrAnd}
+use Rattle.fp_source.specs.declared.whole_part.WholeFault.{WholeFault}
+use Rattle.fp_source.specs.declared.whole_part.WholeFault.TheVariants as whole
+use Rattle.fp_source.specs.declared.lines.LineFault.{LineFault}
+use Rattle.fp_source.specs.declared.lines.LineFault.TheVariants as line
+
+-- it says nothing of a value
+pub nothing_if : {T E : Type 0} (r : Result T E) (P : T → Type 0) → IsErr r → IfOk r P
+nothing_if (Ok x) P is = absurd cc
+nothing_if (Err y) P is = tt
+
+pub nothing_on : {T E : Type 0} (r : Result T E) (P : Type 0) → IsErr r → OnOk r P
+nothing_on (Ok x) P is = absurd cc
+nothing_on (Err y) P is = tt
+
+-- want of memory
+pub memory_not_long : {T : Type 0} (r : Result T WholeFault) → IsErrAnd r (λ e. e ≡ whole.Memory)
+    → IsErrOf r whole.TooLong → ⊥
+memory_not_long (Ok x) is e = is
+memory_not_long (Err y) is e = absurd cc
+
+pub memory_not_failed : {T : Type 0} (r : Result T WholeFault) → IsErrAnd r (λ e. e ≡ whole.Memory)
+    → IsErrOf r whole.Failed → ⊥
+memory_not_failed (Ok x) is e = is
+memory_not_failed (Err y) is e = absurd cc
+
+-- a read that failed
+pub failed_not_long : {T : Type 0} (r : Result T WholeFault) → IsErrAnd r (λ e. e ≡ whole.Failed)
+    → IsErrOf r whole.TooLong → ⊥
+failed_not_long (Ok x) is e = is
+failed_not_long (Err y) is e = absurd cc
+
+pub failed_is : {T : Type 0} (r : Result T WholeFault) → IsErrAnd r (λ e. e ≡ whole.Failed) → IsErrOf r whole.Failed
+failed_is (Ok x) is = absurd is
+failed_is (Err y) is = cc
+
+-- a read for a line that failed
+pub no_long_line : {T : Type 0} (r : Result T LineFault) (n : ℕ) → IsErrAnd r (λ e. e ≡ line.Failed)
+    → IsErrOf r (line.TooLong n) → ⊥
+no_long_line (Ok x) n is e = is
+no_long_line (Err y) n is e = absurd cc
+
+pub no_line_too_many : {T : Type 0} (r : Result T LineFault) (n : ℕ) → IsErrAnd r (λ e. e ≡ line.Failed)
+    → IsErrOf r (line.TooMany n) → ⊥
+no_line_too_many (Ok x) n is e = is
+no_line_too_many (Err y) n is e = absurd cc
