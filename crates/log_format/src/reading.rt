@@ -12,7 +12,7 @@ ghost use Rattle.log_format.specs.EntryReading.{some_long_at, seq_full_at, detai
 ghost use Rattle.log_format.specs.EntryReading.{lists_at, texts_at, rest_at, stands_before, has_its_parts, keeps_rules, whole_at, entry_at};
 ghost use Rattle.log_format.specs.Faults.{Spells, IsCause, IsReadAs};
 ghost use Rattle.log_format.specs.Reading.{Gives, many_at, counted_at};
-ghost use Rattle.std.specs.Prelude.{◌≡◌, IfOk, IfErr, List as ListOf};
+ghost use Rattle.std.specs.Prelude.{◌≡◌, if◌then◌else◌, IfOk, IfErr, None, Some, List as ListOf};
 
 use crate::fault::{FormatFault, ReadError};
 use crate::takes::{byte_of, long_of, numbers_of, short_of, u16_of, u32_of, u64_of};
@@ -316,16 +316,23 @@ fn keeps_rules(e: &Entry) -> bool
     is_ascending(e.items.as_slice()) && has_its_parts(e)
 }
 
+// What was read, if it is as it must be.
+fn read_if<T: Drop>(is_right: bool, read: T) -> Result<T, ReadError>
+    ensures { Gives (λ x. x) result (if is_right then Some read else None) }
+{
+    if is_right {
+        Ok(read)
+    } else {
+        Err(ReadError::Bad)
+    }
+}
+
 #[tactic(auto, unfolding(crate::specs::EntryReading::whole_at))]
 fn whole_of(alloc: Global, bytes: &[u8]) -> Result<Entry, ReadError>
     ensures { Gives (λ x. x) result (whole_at bytes.now) }
 {
     let (e, rest) = rest_of(alloc, bytes)?;
-    if rest.is_empty() && keeps_rules(&e) {
-        Ok(e)
-    } else {
-        Err(ReadError::Bad)
-    }
+    read_if(rest.is_empty() && keeps_rules(&e), e)
 }
 
 #[tactic(auto, unfolding(crate::specs::EntryReading::entry_at))]
