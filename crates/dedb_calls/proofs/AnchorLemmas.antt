@@ -387,6 +387,10 @@ pub on_err : {A E : Type 0} (r : Result A E) (P : Type 0) → P → OnErr r P
 on_err (Ok a) P p = tt
 on_err (Err e) P p = p
 
+pub on_err_so : {A E : Type 0} (r : Result A E) (P Q : Type 0) → (P → Q) → OnErr r P → OnErr r Q
+on_err_so (Ok a) P Q so p = tt
+on_err_so (Err e) P Q so p = so p
+
 -- ---- changes of a list that grows at its end
 
 pub more_behind : (xs : List HeldAnchor) (a : HeldAnchor) → a.is_changed ≡ true

@@ -88,6 +88,23 @@ item_at bytes = do
   kind ← byte_at bytes
   kind_at kind.0 kind.1
 
+-- the rest of an entry from its notes on, behind these parts
+unfoldable pub lists_at : ℕ → Outcome → List ℕ → List ℕ → List ℕ → Option (Entry × List ℕ)
+lists_at from outcome line reply rest = do
+  notes ← counted_at (number_at w64) rest
+  items ← counted_at item_at notes.1
+  Some (
+    record { from = from; outcome = outcome; line = line; reply = reply; notes = notes.0; items = items.0 },
+    items.1,
+  )
+
+-- the rest of an entry from its line on, behind these parts
+unfoldable pub texts_at : ℕ → Outcome → List ℕ → Option (Entry × List ℕ)
+texts_at from outcome rest = do
+  line ← long_at rest
+  reply ← long_at line.1
+  lists_at from outcome line.0 reply.0 reply.1
+
 -- an entry behind its length, whether it keeps the rules or not
 unfoldable pub rest_at : List ℕ → Option (Entry × List ℕ)
 rest_at bytes = do

@@ -9,10 +9,10 @@ ghost use Rattle.fp_model.specs.LogText.{HasSpelling, body_text};
 ghost use Rattle.fp_model.specs.ItemTargets.{precedes, is_ascending};
 ghost use Rattle.fp_model.specs.declared.log.Entry.{Entry as EntryOf};
 ghost use Rattle.log_format.specs.EntryReading.{some_long_at, seq_full_at, detail_at, outcome_at, kind_at, item_at};
-ghost use Rattle.log_format.specs.EntryReading.{rest_at, stands_before, has_its_parts, keeps_rules, whole_at, entry_at};
+ghost use Rattle.log_format.specs.EntryReading.{lists_at, texts_at, rest_at, stands_before, has_its_parts, keeps_rules, whole_at, entry_at};
 ghost use Rattle.log_format.specs.Faults.{Spells, IsCause, IsReadAs};
 ghost use Rattle.log_format.specs.Reading.{Gives, many_at, counted_at};
-ghost use Rattle.std.specs.Prelude.{◌≡◌, IfOk, IfErr, List as ListOf};
+ghost use Rattle.std.specs.Prelude.{◌≡◌, if◌then◌else◌, IfOk, IfErr, None, Some, List as ListOf};
 
 use crate::fault::{FormatFault, ReadError};
 use crate::takes::{byte_of, long_of, numbers_of, short_of, u16_of, u32_of, u64_of};
@@ -30,43 +30,74 @@ fn seq_full_of(rest: &[u8]) -> Result<(Outcome, &[u8]), ReadError>
     Ok((Outcome::SeqFull { set, begin, end, n }, rest))
 }
 
+// The readers of one outcome each, by its code.
+#[tactic(auto, unfolding(crate::specs::EntryReading::detail_at))]
+fn verify_of(alloc: Global, rest: &[u8]) -> Result<(Outcome, &[u8]), ReadError>
+    ensures { Gives (λ x. (x.0, x.1.now)) result (detail_at 1 rest.now) }
+{
+    let (call, rest) = u32_of(rest)?;
+    let (fsa, rest) = u16_of(rest)?;
+    let (found, rest) = long_of(alloc, rest)?;
+    Ok((Outcome::Verify { call, fsa, found }, rest))
+}
+
+#[tactic(auto, unfolding(crate::specs::EntryReading::detail_at))]
+fn roll_of(rest: &[u8]) -> Result<(Outcome, &[u8]), ReadError>
+    ensures { Gives (λ x. (x.0, x.1.now)) result (detail_at 2 rest.now) }
+{
+    let (code, rest) = u16_of(rest)?;
+    Ok((Outcome::Roll(code), rest))
+}
+
+#[tactic(auto, unfolding(crate::specs::EntryReading::detail_at))]
+fn deadlock_of(alloc: Global, rest: &[u8]) -> Result<(Outcome, &[u8]), ReadError>
+    ensures { Gives (λ x. (x.0, x.1.now)) result (detail_at 4 rest.now) }
+{
+    let (cycle, rest) = short_of(alloc, rest)?;
+    Ok((Outcome::Deadlock(cycle), rest))
+}
+
+#[tactic(auto, unfolding(crate::specs::EntryReading::detail_at))]
+fn purge_of(rest: &[u8]) -> Result<(Outcome, &[u8]), ReadError>
+    ensures { Gives (λ x. (x.0, x.1.now)) result (detail_at 8 rest.now) }
+{
+    let (set, rest) = u16_of(rest)?;
+    let (n, rest) = u64_of(rest)?;
+    Ok((Outcome::Purge { set, n }, rest))
+}
+
+#[tactic(auto, unfolding(crate::specs::EntryReading::detail_at))]
+fn old_of(rest: &[u8]) -> Result<(Outcome, &[u8]), ReadError>
+    ensures { Gives (λ x. (x.0, x.1.now)) result (detail_at 9 rest.now) }
+{
+    let (last, rest) = u64_of(rest)?;
+    Ok((Outcome::Old(last), rest))
+}
+
+#[tactic(auto, unfolding(crate::specs::EntryReading::detail_at))]
+fn repeat_of(alloc: Global, rest: &[u8]) -> Result<(Outcome, &[u8]), ReadError>
+    ensures { Gives (λ x. (x.0, x.1.now)) result (detail_at 10 rest.now) }
+{
+    let (line, rest) = long_of(alloc, rest)?;
+    Ok((Outcome::Repeat(line), rest))
+}
+
 #[tactic(auto, unfolding(crate::specs::EntryReading::detail_at))]
 fn detail_of(alloc: Global, code: u8, rest: &[u8]) -> Result<(Outcome, &[u8]), ReadError>
     ensures { Gives (λ x. (x.0, x.1.now)) result (detail_at code rest.now) }
 {
     match code {
         0 => Ok((Outcome::Done, rest)),
-        1 => {
-            let (call, rest) = u32_of(rest)?;
-            let (fsa, rest) = u16_of(rest)?;
-            let (found, rest) = long_of(alloc, rest)?;
-            Ok((Outcome::Verify { call, fsa, found }, rest))
-        }
-        2 => {
-            let (code, rest) = u16_of(rest)?;
-            Ok((Outcome::Roll(code), rest))
-        }
+        1 => verify_of(alloc, rest),
+        2 => roll_of(rest),
         3 => seq_full_of(rest),
-        4 => {
-            let (cycle, rest) = short_of(alloc, rest)?;
-            Ok((Outcome::Deadlock(cycle), rest))
-        }
+        4 => deadlock_of(alloc, rest),
         5 => Ok((Outcome::Device, rest)),
         6 => Ok((Outcome::Memory, rest)),
         7 => Ok((Outcome::Unknown, rest)),
-        8 => {
-            let (set, rest) = u16_of(rest)?;
-            let (n, rest) = u64_of(rest)?;
-            Ok((Outcome::Purge { set, n }, rest))
-        }
-        9 => {
-            let (last, rest) = u64_of(rest)?;
-            Ok((Outcome::Old(last), rest))
-        }
-        10 => {
-            let (line, rest) = long_of(alloc, rest)?;
-            Ok((Outcome::Repeat(line), rest))
-        }
+        8 => purge_of(rest),
+        9 => old_of(rest),
+        10 => repeat_of(alloc, rest),
         11 => Ok((Outcome::Format, rest)),
         _ => Err(ReadError::Bad),
     }
@@ -92,30 +123,46 @@ fn some_long_of(alloc: Global, bytes: &[u8]) -> Result<(Bytes, &[u8]), ReadError
     Ok((text, rest))
 }
 
+// The readers of one item each, by its code.
+#[tactic(auto, unfolding(crate::specs::EntryReading::kind_at))]
+fn segment_of(alloc: Global, rest: &[u8]) -> Result<(Item, &[u8]), ReadError>
+    ensures { Gives (λ x. (x.0, x.1.now)) result (kind_at 1 rest.now) }
+{
+    let (msdb, rest) = byte_of(rest)?;
+    let (key, rest) = short_of(alloc, rest)?;
+    let (bytes, rest) = long_of(alloc, rest)?;
+    Ok((Item::Segment { msdb, key, bytes }, rest))
+}
+
+#[tactic(auto, unfolding(crate::specs::EntryReading::kind_at))]
+fn image_of(alloc: Global, rest: &[u8]) -> Result<(Item, &[u8]), ReadError>
+    ensures { Gives (λ x. (x.0, x.1.now)) result (kind_at 2 rest.now) }
+{
+    let (set, rest) = u16_of(rest)?;
+    let (ci, rest) = u64_of(rest)?;
+    let (bytes, rest) = long_of(alloc, rest)?;
+    Ok((Item::Image { set, ci, bytes }, rest))
+}
+
+#[tactic(auto, unfolding(crate::specs::EntryReading::kind_at))]
+fn range_of(alloc: Global, rest: &[u8]) -> Result<(Item, &[u8]), ReadError>
+    ensures { Gives (λ x. (x.0, x.1.now)) result (kind_at 3 rest.now) }
+{
+    let (set, rest) = u16_of(rest)?;
+    let (ci, rest) = u64_of(rest)?;
+    let (at, rest) = u16_of(rest)?;
+    let (bytes, rest) = some_long_of(alloc, rest)?;
+    Ok((Item::Range { set, ci, at, bytes }, rest))
+}
+
 #[tactic(auto, unfolding(crate::specs::EntryReading::kind_at))]
 fn kind_of(alloc: Global, kind: u8, rest: &[u8]) -> Result<(Item, &[u8]), ReadError>
     ensures { Gives (λ x. (x.0, x.1.now)) result (kind_at kind rest.now) }
 {
     match kind {
-        1 => {
-            let (msdb, rest) = byte_of(rest)?;
-            let (key, rest) = short_of(alloc, rest)?;
-            let (bytes, rest) = long_of(alloc, rest)?;
-            Ok((Item::Segment { msdb, key, bytes }, rest))
-        }
-        2 => {
-            let (set, rest) = u16_of(rest)?;
-            let (ci, rest) = u64_of(rest)?;
-            let (bytes, rest) = long_of(alloc, rest)?;
-            Ok((Item::Image { set, ci, bytes }, rest))
-        }
-        3 => {
-            let (set, rest) = u16_of(rest)?;
-            let (ci, rest) = u64_of(rest)?;
-            let (at, rest) = u16_of(rest)?;
-            let (bytes, rest) = some_long_of(alloc, rest)?;
-            Ok((Item::Range { set, ci, at, bytes }, rest))
-        }
+        1 => segment_of(alloc, rest),
+        2 => image_of(alloc, rest),
+        3 => range_of(alloc, rest),
         _ => Err(ReadError::Bad),
     }
 }
@@ -149,14 +196,17 @@ fn items_of(alloc: Global, bytes: &[u8]) -> Result<(List<Item>, &[u8]), ReadErro
     many_items_of(alloc, count, rest)
 }
 
-#[tactic(auto, unfolding(crate::specs::EntryReading::rest_at))]
-fn rest_of(alloc: Global, bytes: &[u8]) -> Result<(Entry, &[u8]), ReadError>
-    ensures { Gives (λ x. (x.0, x.1.now)) result (rest_at bytes.now) }
+#[tactic(auto, unfolding(crate::specs::EntryReading::lists_at))]
+fn lists_of(
+    alloc: Global,
+    from: u64,
+    outcome: Outcome,
+    line: Bytes,
+    reply: Bytes,
+    rest: &[u8],
+) -> Result<(Entry, &[u8]), ReadError>
+    ensures { Gives (λ x. (x.0, x.1.now)) result (lists_at from outcome line reply rest.now) }
 {
-    let (from, rest) = u64_of(bytes)?;
-    let (outcome, rest) = outcome_of(alloc, rest)?;
-    let (line, rest) = long_of(alloc, rest)?;
-    let (reply, rest) = long_of(alloc, rest)?;
     let (notes, rest) = numbers_of(alloc, rest)?;
     let (items, rest) = items_of(alloc, rest)?;
     let e = Entry {
@@ -168,6 +218,29 @@ fn rest_of(alloc: Global, bytes: &[u8]) -> Result<(Entry, &[u8]), ReadError>
         items,
     };
     Ok((e, rest))
+}
+
+#[tactic(auto, unfolding(crate::specs::EntryReading::texts_at))]
+fn texts_of(
+    alloc: Global,
+    from: u64,
+    outcome: Outcome,
+    rest: &[u8],
+) -> Result<(Entry, &[u8]), ReadError>
+    ensures { Gives (λ x. (x.0, x.1.now)) result (texts_at from outcome rest.now) }
+{
+    let (line, rest) = long_of(alloc, rest)?;
+    let (reply, rest) = long_of(alloc, rest)?;
+    lists_of(alloc, from, outcome, line, reply, rest)
+}
+
+#[tactic(auto, unfolding(crate::specs::EntryReading::rest_at, crate::specs::EntryReading::texts_at, crate::specs::EntryReading::lists_at))]
+fn rest_of(alloc: Global, bytes: &[u8]) -> Result<(Entry, &[u8]), ReadError>
+    ensures { Gives (λ x. (x.0, x.1.now)) result (rest_at bytes.now) }
+{
+    let (from, rest) = u64_of(bytes)?;
+    let (outcome, rest) = outcome_of(alloc, rest)?;
+    texts_of(alloc, from, outcome, rest)
 }
 
 fn key_precedes(key: &Bytes, next: &Bytes) -> bool
@@ -243,16 +316,23 @@ fn keeps_rules(e: &Entry) -> bool
     is_ascending(e.items.as_slice()) && has_its_parts(e)
 }
 
+// What was read, if it is as it must be.
+fn read_if<T: Drop>(is_right: bool, read: T) -> Result<T, ReadError>
+    ensures { Gives (λ x. x) result (if is_right then Some read else None) }
+{
+    if is_right {
+        Ok(read)
+    } else {
+        Err(ReadError::Bad)
+    }
+}
+
 #[tactic(auto, unfolding(crate::specs::EntryReading::whole_at))]
 fn whole_of(alloc: Global, bytes: &[u8]) -> Result<Entry, ReadError>
     ensures { Gives (λ x. x) result (whole_at bytes.now) }
 {
     let (e, rest) = rest_of(alloc, bytes)?;
-    if rest.is_empty() && keeps_rules(&e) {
-        Ok(e)
-    } else {
-        Err(ReadError::Bad)
-    }
+    read_if(rest.is_empty() && keeps_rules(&e), e)
 }
 
 #[tactic(auto, unfolding(crate::specs::EntryReading::entry_at))]

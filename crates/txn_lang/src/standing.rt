@@ -3,10 +3,11 @@
 //! The script that is being read has a block of statements so far. Where an IF or a REPEAT is open, that is the block
 //! of the innermost one, and what stood before it waits in a frame: there is a frame for each open IF and REPEAT, the
 //! innermost last, and at most 64.
-ghost use Rattle.std.specs.Prelude.{◌≡◌, length, is_some, nat_lt};
+ghost use Rattle.std.specs.Prelude.{◌≡◌, Err, Ok, if◌then◌else◌, length, is_some, nat_lt};
 ghost use Rattle.std.specs.List.{list_any};
 ghost use Rattle.txn_tokens.specs.Readings.{Gives};
 ghost use Rattle.txn_tokens.specs.Lookups.{HaveByteNumbers};
+ghost use Rattle.txn_tokens.specs.declared.fault.LineFault.TheVariants.{UnknownName};
 ghost use Rattle.txn_lang.specs.Blocks as blocks;
 ghost use Rattle.txn_lang.specs.Blocks.{stands, unclosed};
 ghost use Rattle.txn_lang.specs.Building as building;
@@ -74,6 +75,16 @@ pub(crate) struct Builder {
     pub(crate) scripts: List<Script>,
     /// What each of them costs.
     pub(crate) costs: List<u64>,
+}
+
+// What was said, if it names what is known.
+fn said_if<T: Drop>(is_known: bool, said: T) -> Result<T, LineFault>
+    ensures { Gives (λ x. x) result (if is_known then Ok said else Err UnknownName) }
+{
+    if is_known {
+        return Ok(said);
+    }
+    Err(LineFault::UnknownName)
 }
 
 impl Frame {
@@ -199,9 +210,6 @@ impl Builder {
         let (keyword, rest) = keyword_at(&tokens)?;
         self.can_stand(keyword)?;
         let said = line_behind(alloc, defs, keyword, rest)?;
-        if !are_known(defs, &tokens) {
-            return Err(LineFault::UnknownName);
-        }
-        Ok((keyword, said))
+        said_if(are_known(defs, &tokens), (keyword, said))
     }
 }

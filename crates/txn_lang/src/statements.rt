@@ -159,12 +159,12 @@ pub(crate) fn keyword_at(tokens: &[Token]) -> Result<(Keyword, &[Token]), LineFa
     Ok((keyword, rest))
 }
 
-// Nothing is left behind a line.
-fn ended(line: Line, tokens: &[Token]) -> Result<Line, LineFault>
-    ensures { Gives (λ x. x) result (ended line tokens.now) }
+// What was read, where nothing is left behind it.
+fn ended<T: Drop>(said: T, tokens: &[Token]) -> Result<T, LineFault>
+    ensures { Gives (λ x. x) result (ended said tokens.now) }
 {
     if tokens.is_empty() {
-        return Ok(line);
+        return Ok(said);
     }
     Err(LineFault::Syntax)
 }
@@ -187,10 +187,7 @@ fn set_rest(alloc: Global, tokens: &[Token]) -> Result<Option<(Operation, Operan
     }
     let (operation, rest) = operation_at(tokens)?;
     let (second, rest) = operand_at(alloc, rest)?;
-    if !rest.is_empty() {
-        return Err(LineFault::Syntax);
-    }
-    Ok(Some((operation, second)))
+    ended(Some((operation, second)), rest)
 }
 
 #[tactic(auto, unfolding(crate::specs::Statements::set_line))]
