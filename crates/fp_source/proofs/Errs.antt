@@ -1,11 +1,13 @@
 -- Results that are an Err of one kind, and so of no other.
-use Rattle.std.proofs.Common.{◌≡◌, ℕ}
-use Rattle.std.specs.Prelude.{Result, Ok, Err, IfOk, OnOk, IsErr, IsErrOf}
+use Rattle.std.proofs.Common.{◌≡◌, ℕ, refl}
+use Rattle.std.specs.Prelude.{Result, Ok, Err, IfErr, IfOk, OnOk, IsErr, IsErrOf}
 use Rattle.std.specs.Result.{IsErrAnd}
 use Rattle.fp_source.specs.declared.whole_part.WholeFault.{WholeFault}
 use Rattle.fp_source.specs.declared.whole_part.WholeFault.TheVariants as whole
 use Rattle.fp_source.specs.declared.lines.LineFault.{LineFault}
 use Rattle.fp_source.specs.declared.lines.LineFault.TheVariants as line
+use Rattle.fp_source.specs.Source.{Rose}
+use Rattle.fp_source.specs.Lines.{IsCausedBy}
 
 -- it says nothing of a value
 pub nothing_if : {T E : Type 0} (r : Result T E) (P : T → Type 0) → IsErr r → IfOk r P
@@ -47,3 +49,21 @@ pub no_line_too_many : {T : Type 0} (r : Result T LineFault) (n : ℕ) → IsErr
     → IsErrOf r (line.TooMany n) → ⊥
 no_line_too_many (Ok x) n is e = is
 no_line_too_many (Err y) n is e = absurd cc
+
+-- ---- what a fault of a line is caused by
+
+pub caused : {T : Type 0} (r : Result T LineFault) (before now : ℕ) → IsErrAnd r (λ e. e ≡ line.Failed)
+    → Rose before now → IfErr r (IsCausedBy before now)
+caused (Ok x) before now is rose = tt
+caused (Err y) before now is rose = rw is rose
+
+pub not_by_read : {T : Type 0} (r : Result T LineFault) (e : LineFault) (before now : ℕ) → r ≡ Err e
+    → (e ≡ line.Failed → ⊥) → now ≡ before → IfErr r (IsCausedBy before now)
+not_by_read r (line.TooLong n) before now is other same = rw is same
+not_by_read r line.Failed before now is other same = absurd (other refl)
+not_by_read r (line.TooMany n) before now is other same = rw is same
+not_by_read r line.Memory before now is other same = rw is same
+
+pub caused_later : {T : Type 0} (r : Result T LineFault) (e : LineFault) (before middle now : ℕ) → r ≡ Err e
+    → middle ≡ before → IsCausedBy middle now e → IfErr r (IsCausedBy before now)
+caused_later r e before middle now is same cause = rw (is, ← same) cause

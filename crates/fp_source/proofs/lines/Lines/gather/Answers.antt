@@ -1,11 +1,11 @@
-use Rattle.std.proofs.Common.{◌≡◌, ◌++◌, ℕ, List, [], Err, sym, ◌∙◌, ap, append_assoc}
+use Rattle.std.proofs.Common.{◌≡◌, ◌+◌, ◌++◌, ℕ, List, [], Err, sym, ◌∙◌, ap, append_assoc}
 use Rattle.std.proofs.lemmas.Result.{err_from_is_err_and}
 use Rattle.fp_source.specs.declared.lines.LineFault.{LineFault}
-use Rattle.fp_source.specs.declared.lines.LineFault.TheVariants.{TooLong}
+use Rattle.fp_source.specs.declared.lines.LineFault.TheVariants.{TooLong, TooMany}
 use Rattle.fp_source.specs.declared.part.Part.TheVariants.{Messages}
 use Rattle.fp_source.specs.Lines.{buffered, to_come}
-use Rattle.fp_source.proofs.Errs.{nothing_if, nothing_on, no_long_line, no_line_too_many}
-use Rattle.fp_source.proofs.Pieces.{plain_append, long_extended}
+use Rattle.fp_source.proofs.Errs.{nothing_if, nothing_on, no_long_line, no_line_too_many, caused, not_by_read}
+use Rattle.fp_source.proofs.Pieces.{plain_append, long_extended, rose_since}
 use Rattle.fp_source.proofs.Calls.{reads_joined}
 use Rattle.fp_source.proofs.lines.Lines.gather.Goals as goal
 
@@ -100,3 +100,39 @@ loop-self-preserved g c =
       given = c.in_ok-take_part.ensures.given ∙ c.in_ok-fill.ensures.given ∙ it.given;
       calm = c.in_ok-fill.ensures.cause.stayed ∙ it.calm;
     }
+
+pub returns-in_err-fill-clause-cause : goal.returns-in_err-fill-clause-cause
+returns-in_err-fill-clause-cause g c = caused c.from_residual.result _ _ c.from_residual.ensures.1
+    (rose_since _ _ _ c.loop-self.invariant.source.later c.in_err-fill.ensures.cause.rose)
+
+pub returns-in_err-take_part-clause-number : goal.returns-in_err-take_part-clause-number
+returns-in_err-take_part-clause-number g c = λ n e.
+    let p = err_from_is_err_and c.from_residual-in_err-take_part.result c.from_residual-in_err-take_part.ensures.1 in
+    let told : LineFault = c.in_err-take_part.field-0.0 in
+    let same : told ≡ TooLong n = cc (p.1, p.2, e) in
+    c.in_err-take_part.ensures.number n (ap (λ x. Err x) same) ∙ ap (λ k. k + 1)
+    (c.in_ok-fill.ensures.given ∙ c.loop-self.invariant.given)
+
+pub returns-in_err-take_part-clause-not_many : goal.returns-in_err-take_part-clause-not_many
+returns-in_err-take_part-clause-not_many g c = λ n e.
+    let p = err_from_is_err_and c.from_residual-in_err-take_part.result c.from_residual-in_err-take_part.ensures.1 in
+    let told : LineFault = c.in_err-take_part.field-0.0 in
+    let same : told ≡ TooMany n = cc (p.1, p.2, e) in
+    c.in_err-take_part.ensures.not_many n (ap (λ x. Err x) same)
+
+pub returns-in_err-take_part-clause-cause : goal.returns-in_err-take_part-clause-cause
+returns-in_err-take_part-clause-cause g c =
+    let p = err_from_is_err_and c.from_residual-in_err-take_part.result c.from_residual-in_err-take_part.ensures.1 in
+    let told : LineFault = c.in_err-take_part.field-0.0 in
+    let same : c.from_residual-in_err-take_part.result ≡ Err told = cc (p.1, p.2) in
+    not_by_read c.from_residual-in_err-take_part.result told _ _ same (λ e. c.in_err-take_part.ensures.not_failed (ap (λ x. Err x) e))
+    (c.in_ok-fill.ensures.cause.stayed ∙ c.loop-self.invariant.calm)
+
+pub returns-in_err-take_part-clause-given : goal.returns-in_err-take_part-clause-given
+returns-in_err-take_part-clause-given g c =
+    c.in_err-take_part.ensures.given ∙ c.in_ok-fill.ensures.given ∙ c.loop-self.invariant.given
+
+pub returns-in_err-take_part-clause-source : goal.returns-in_err-take_part-clause-source
+returns-in_err-take_part-clause-source g c = reads_joined g.S.Source.told g.S.Source.left g.S.Source.faults g.S.Source.holds
+    g.S.Source.keeps Messages c.args.source.now c.loop-self.source c.fill.new.source c.loop-self.invariant.source
+    c.in_ok-fill.ensures.source

@@ -2,9 +2,10 @@ use Rattle.std.proofs.Common.{◌≡◌, ◌<◌, ◌+◌, ℕ, List, Err, lengt
 use Rattle.std.proofs.lemmas.Result.{err_from_is_err_and}
 use Rattle.fp_source.specs.declared.part.Part.TheVariants.{Messages}
 use Rattle.fp_source.specs.declared.lines.LineFault.{LineFault}
-use Rattle.fp_source.specs.declared.lines.LineFault.TheVariants.{TooLong}
+use Rattle.fp_source.specs.declared.lines.LineFault.TheVariants.{TooLong, TooMany}
 use Rattle.fp_source.specs.Lines.{buffered, to_come}
-use Rattle.fp_source.proofs.Errs.{nothing_if, nothing_on, no_long_line, no_line_too_many}
+use Rattle.fp_source.proofs.Errs.{nothing_if, nothing_on, no_long_line, no_line_too_many, caused, caused_later}
+use Rattle.fp_source.proofs.Calls.{reads_joined}
 use Rattle.fp_source.proofs.LineLemmas.{Begins, line_given, fault_stays, many_ahead, long_ahead}
 use Rattle.fp_source.proofs.lines.Lines.next.Given.{Over}
 use Rattle.fp_source.proofs.lines.Lines.next.Goals as goal
@@ -131,3 +132,40 @@ returns-clause-fair g c = λ t.
     let given : c.gather.new.self.given ≡ c.args.self.now.given =
     c.in_ok-by_newline.ensures.given ∙ c.in_ok-fill.ensures.given in
     rw given (fault_stays c.args.self.now.given _ _ _ _ (begins g c t) (omega arith) c.in_ok-by_newline.ensures.short)
+
+pub returns-in_err-fill-clause-cause : goal.returns-in_err-fill-clause-cause
+returns-in_err-fill-clause-cause g c =
+    caused c.from_residual.result _ _ c.from_residual.ensures.1 c.in_err-fill.ensures.cause.rose
+
+pub returns-in_err-by_newline-clause-too_many : goal.returns-in_err-by_newline-clause-too_many
+returns-in_err-by_newline-clause-too_many g c = λ t n e.
+    let p = err_from_is_err_and c.from_residual-in_err-by_newline.result c.from_residual-in_err-by_newline.ensures.1 in
+    let told : LineFault = c.in_err-by_newline.field-0.0 in
+    let same : told ≡ TooMany n = cc (p.1, p.2, e) in
+    absurd (c.in_err-by_newline.ensures.not_many n (ap (λ x. Err x) same))
+
+pub returns-in_err-by_newline-clause-last_number : goal.returns-in_err-by_newline-clause-last_number
+returns-in_err-by_newline-clause-last_number g c = λ n e.
+    let p = err_from_is_err_and c.from_residual-in_err-by_newline.result c.from_residual-in_err-by_newline.ensures.1 in
+    let told : LineFault = c.in_err-by_newline.field-0.0 in
+    let same : told ≡ TooMany n = cc (p.1, p.2, e) in
+    absurd (c.in_err-by_newline.ensures.not_many n (ap (λ x. Err x) same))
+
+pub returns-in_err-by_newline-clause-long_number : goal.returns-in_err-by_newline-clause-long_number
+returns-in_err-by_newline-clause-long_number g c = λ n e.
+    let p = err_from_is_err_and c.from_residual-in_err-by_newline.result c.from_residual-in_err-by_newline.ensures.1 in
+    let told : LineFault = c.in_err-by_newline.field-0.0 in
+    let same : told ≡ TooLong n = cc (p.1, p.2, e) in
+    c.in_err-by_newline.ensures.number n (ap (λ x. Err x) same) ∙ ap (λ k. k + 1) c.in_ok-fill.ensures.given
+
+pub returns-in_err-by_newline-clause-cause : goal.returns-in_err-by_newline-clause-cause
+returns-in_err-by_newline-clause-cause g c =
+    let p = err_from_is_err_and c.from_residual-in_err-by_newline.result c.from_residual-in_err-by_newline.ensures.1 in
+    let told : LineFault = c.in_err-by_newline.field-0.0 in
+    let same : c.from_residual-in_err-by_newline.result ≡ Err told = cc (p.1, p.2) in
+    caused_later c.from_residual-in_err-by_newline.result told _ _ _ same c.in_ok-fill.ensures.cause.stayed c.in_err-by_newline.ensures.cause
+
+pub returns-in_err-by_newline-clause-source : goal.returns-in_err-by_newline-clause-source
+returns-in_err-by_newline-clause-source g c = reads_joined g.S.Source.told g.S.Source.left g.S.Source.faults g.S.Source.holds
+    g.S.Source.keeps Messages c.args.source.now c.fill.new.source c.gather.new.source c.in_ok-fill.ensures.source
+    c.in_err-by_newline.ensures.source
