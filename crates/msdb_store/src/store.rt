@@ -9,7 +9,7 @@ ghost use Rattle.std.specs.Ordering.{nat_cmp};
 ghost use Rattle.msdb_store.specs.Putting.{AreFew};
 ghost use Rattle.msdb_store.specs.Rooms.{msdb_of, room_of};
 ghost use Rattle.msdb_store.specs.Store.{least};
-ghost use Rattle.std.specs.Prelude.{◌≡◌, ◌≤◌, ◌<◌, ◌^◌, IfOk, OnOk, length, map, take};
+ghost use Rattle.std.specs.Prelude.{◌≡◌, ◌≤◌, ◌<◌, ◌^◌, [], ◌∷◌, ◌++◌, IfOk, OnOk, length, map, take};
 
 use crate::keyed::key_in;
 use crate::staged::Staged;
@@ -66,6 +66,22 @@ fn loaded(alloc: Global, def: &MsdbDef) -> Result<Table, AllocError>
     Table::new(alloc, def, sorted_load(def)?)
 }
 
+// Adds the table of a definition and its database behind those before.
+fn add_table(
+    alloc: Global,
+    def: &MsdbDef,
+    msdb: Msdb,
+    tables: &mut Vec<Table>,
+) -> Result<(), AllocError>
+    ensures layouts { OnOk result (map (λ t. t.fields) tables.new.items
+        ≡ map (λ t. t.fields) tables.old.items ++ def.now.fields ∷ []) }
+    ensures msdbs { OnOk result (map msdb_of tables.new.items ≡ map msdb_of tables.old.items ++ msdb ∷ []) }
+    ensures few { AreFew (map msdb_of tables.old.items) → OnOk result (AreFew (map msdb_of tables.new.items)) }
+{
+    tables.push(Table::new(alloc, def, msdb.segments.into_vec())?)?;
+    Ok(())
+}
+
 // Makes room for so many segments more in each table.
 fn make_room(tables: &mut [Table], n: usize) -> Result<(), AllocError>
     requires { n < 2 ^ 32 }
@@ -104,7 +120,7 @@ impl MsdbStore {
     {
         let mut tables = Vec::new(alloc);
         for (def, msdb) in defs.msdbs.as_slice().iter().zip(msdbs.into_vec()) {
-            tables.push(Table::new(alloc, def, msdb.segments.into_vec())?)?;
+            add_table(alloc, def, msdb, &mut tables)?;
         }
         Ok(MsdbStore { tables })
     }

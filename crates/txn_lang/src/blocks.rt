@@ -107,6 +107,24 @@ fn closed(opening: Opening, block: Block, alloc: Global) -> (Statement, u64)
     }
 }
 
+// The block that an open one stands in, with the statement that this one makes at its END.
+fn around(frame: Frame, block: Block, alloc: Global) -> Result<Block, AllocError>
+    requires opening { building.IsOpening frame.opening }
+    requires outer { IsBlock frame.outer }
+    requires block { IsBlock block }
+    ensures statements { IfOk result (λ b. b.statements
+        ≡ frame.outer.statements ++ statement_by frame.opening block.statements ∷ []) }
+    ensures costed { IfOk result (λ b. IsBlock b) }
+{
+    let Frame {
+        opening,
+        line: _,
+        outer,
+    } = frame;
+    let (statement, cost) = closed(opening, block, alloc);
+    outer.with(statement, cost)
+}
+
 impl Builder {
     /// Before the first line.
     pub(crate) fn new(alloc: Global) -> Builder
@@ -252,15 +270,8 @@ impl Builder {
             costs,
         } = self;
         match frames.pop() {
-            Some(
-                Frame {
-                    opening,
-                    line: _,
-                    outer,
-                },
-            ) => {
-                let (statement, cost) = closed(opening, block, alloc);
-                let block = outer.with(statement, cost)?;
+            Some(frame) => {
+                let block = around(frame, block, alloc)?;
                 Ok(Builder {
                     begun,
                     block,
