@@ -7,16 +7,16 @@
 
 ghost use Rattle.byteorder.specs.Endian.{big_from};
 ghost use Rattle.std.specs.Prelude.{if◌then◌else◌, List, ◌≡◌, ◌↔◌, ◌&&◌, not, ◌^◌, ◌+◌, ◌*◌, ◌≤◌, ◌<◌, ◌⊎◌, ℕ, Err, length, IsTrue, IfOk, OnOk, IfSome, IfNone, true, false, IsErrOf, All, slice_range};
-ghost use Rattle.ci_space.specs.Calls.{Rose, GoesOn};
+ghost use Rattle.ci_space.specs.Calls.{GoesOn};
+ghost use Rattle.fp_lists.specs.Faults.{Rose};
 ghost use Rattle.ci_space.specs.Interval.{IsInterval, IsZero};
 ghost use Rattle.ci_overflow.specs.Lists.{bytes_at};
 ghost use Rattle.fp_model.specs.Order.{child_types, is_child_of, numbers_from};
 ghost use Rattle.fp_model.specs.Shape.{has_length};
 ghost use Rattle.fp_model.specs.WellFormed.{has_sequential};
-ghost use Rattle.anchor_elements.specs.Elements.{Pointer, Segment, HasSegment, pointer_at, pointers_from, has_serial, serial_length, prefix_length, segment_length, content_length, segment_in};
+ghost use Rattle.anchor_elements.specs.Elements.{Pointer, Segment, HasSegment, pointer_at, pointers_from, has_serial, serial_length, prefix_length, segment_length, content_length, segment_in, AreTypes};
 ghost use Rattle.anchor_elements.specs.Reading.{types_of, pointers_of, segment_of, IsWhole, IsOfType, Holds, IsMissing};
 ghost use Rattle.anchor_elements.specs.Wrong.{IsWrong};
-ghost use Rattle.anchor_elements.specs.Elements.{AreTypes};
 
 use crate::fault::AnchorFault;
 use crate::pointer::Pointer;

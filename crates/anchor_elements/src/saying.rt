@@ -1,14 +1,14 @@
 //! Segments that are put into elements of an area.
 
 ghost use Rattle.std.specs.Prelude.{◌≡◌, ◌↔◌, ◌<◌, ℕ, List, Err, IfOk, OnOk, IsErrOf, IsTrue, IsFalse, false, length, IfSome, slice_get};
-ghost use Rattle.ci_space.specs.Calls.{Rose, GoesOn};
+ghost use Rattle.ci_space.specs.Calls.{GoesOn};
+ghost use Rattle.fp_lists.specs.Faults.{Rose};
 ghost use Rattle.ci_space.specs.Interval.{HasRoom, HasUsed, IsUsed, OthersStay, Keeps, SameSize};
 ghost use Rattle.ci_overflow.specs.Lists.{bytes_at};
 ghost use Rattle.ci_overflow.specs.Rooms.{IsPut};
 ghost use Rattle.fp_model.specs.Order.{child_types};
-ghost use Rattle.anchor_elements.specs.Elements.{content_length, has_serial, segment_length};
+ghost use Rattle.anchor_elements.specs.Elements.{content_length, has_serial, segment_length, AreTypes};
 ghost use Rattle.anchor_elements.specs.Puts.{PutsSegment};
-ghost use Rattle.anchor_elements.specs.Elements.{AreTypes};
 ghost use Rattle.anchor_elements.specs.Spelling.{Says, said, spelled_length};
 
 use crate::element::{has_serial, interval_at};

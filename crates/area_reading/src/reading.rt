@@ -1,7 +1,8 @@
 //! An anchor of an area is read.
 
 ghost use Rattle.std.specs.Prelude.{◌≡◌, ◌≢◌, ◌<◌, ℕ, Err, IfOk, IsErrOf};
-ghost use Rattle.ci_space.specs.Calls.{Rose, GoesOn};
+ghost use Rattle.ci_space.specs.Calls.{GoesOn};
+ghost use Rattle.fp_lists.specs.Faults.{Rose};
 ghost use Rattle.root_anchor.specs.Chains.{anchor_count};
 ghost use Rattle.area_states.specs.Places.{IsPlace};
 ghost use Rattle.area_states.specs.States.{AreaState, HasAnchor, HasState};

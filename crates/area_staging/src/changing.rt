@@ -6,7 +6,7 @@ ghost use Rattle.std.specs.Ordering.{nat_cmp};
 ghost use Rattle.std.specs.BTreeMap.{get};
 ghost use Rattle.fp_model.specs.State.{first_area_set};
 ghost use Rattle.fp_model.specs.ItemTargets.{is_ascending};
-ghost use Rattle.ci_space.specs.Calls.{Rose};
+ghost use Rattle.fp_lists.specs.Faults.{Rose};
 ghost use Rattle.ci_space.specs.Interval.{is_size};
 ghost use Rattle.ci_pool.specs.Held.{HasSize, IsClean, SameAtHand, held_at, newest_in, staged_at};
 ghost use Rattle.ci_pool.specs.declared.fault.PoolFault.TheVariants as fault;

@@ -1,7 +1,8 @@
 //! The root of a key, as an anchor of an area has it.
 
 ghost use Rattle.std.specs.Prelude.{◌≡◌, ◌≢◌, ◌<◌, ℕ, Err, IfOk, IfNone, IfSome, IsErrOf, map, true};
-ghost use Rattle.ci_space.specs.Calls.{Rose, GoesOn};
+ghost use Rattle.ci_space.specs.Calls.{GoesOn};
+ghost use Rattle.fp_lists.specs.Faults.{Rose};
 ghost use Rattle.fp_model.specs.Order.{root_key};
 ghost use Rattle.fp_model.specs.State.{ascend};
 ghost use Rattle.root_anchor.specs.Chains.{anchor_count};

@@ -2,7 +2,8 @@
 
 ghost use Rattle.std.specs.Prelude.{◌≡◌, ◌≢◌, ◌≤◌, ◌∷◌, [], ℕ, Err, IfNone, IfOk, IfSome, OnOk, IsErrOf, false, map, true, ◌<◌};
 ghost use Rattle.std.specs.List.{AllByRecursion};
-ghost use Rattle.ci_space.specs.Calls.{Rose, GoesOn};
+ghost use Rattle.ci_space.specs.Calls.{GoesOn};
+ghost use Rattle.fp_lists.specs.Faults.{Rose};
 ghost use Rattle.seq_dependents.specs.Control.{IsControlOf, begin_of};
 ghost use Rattle.fp_model.specs.Order.{root_key};
 ghost use Rattle.fp_model.specs.State.{ascend};

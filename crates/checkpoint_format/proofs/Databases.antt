@@ -3,7 +3,8 @@ use Rattle.std.proofs.Common.{◌≡◌, ℕ, List, [], ◌∷◌, ◌++◌, Opt
 use Rattle.std.proofs.lemmas.List.{append-nil}
 use Rattle.log_format.specs.declared.fault.ReadError.{ReadError}
 use Rattle.log_format.specs.declared.fault.ReadError.TheVariants as errors
-use Rattle.log_format.specs.Reading.{◌>>=◌, Fails}
+use Rattle.log_format.specs.Reading.{Fails}
+use Rattle.fp_model.specs.Values.{◌>>=◌}
 use Rattle.log_format.proofs.Loop.{with_front}
 use Rattle.fp_model.specs.declared.database.Msdb.{Msdb}
 use Rattle.fp_model.specs.declared.definitions.MsdbDef.{MsdbDef}

@@ -2,7 +2,8 @@
 use Rattle.std.specs.Prelude.{ℕ, ◌-◌, ◌^◌, List, [], ◌∷◌, length, map, take, Option, Some, None, Bool, ◌&&◌, ◌||◌, ◌==◌, nat_le, if◌then◌else◌, codes}
 use Rattle.std.specs.Int.{w16, w32, w64}
 use Rattle.std.specs.List.{list_any}
-use Rattle.log_format.specs.Reading.{◌>>=◌, byte_at, number_at, part_at, long_at, many_at}
+use Rattle.log_format.specs.Reading.{byte_at, number_at, part_at, long_at, many_at}
+use Rattle.fp_model.specs.Values.{◌>>=◌}
 use Rattle.fp_model.specs.CheckpointText.{Checkpoint}
 use Rattle.fp_model.specs.Lasts.{Last}
 use Rattle.fp_model.specs.Names.{is_name}

@@ -1,7 +1,8 @@
 //! The interval of an overflow list whose link leads to another one of it.
 
 ghost use Rattle.std.specs.Prelude.{◌≡◌, ◌≢◌, ◌⊎◌, ◌<◌, ◌≤◌, ◌+◌, ℕ, Err, length, IfOk, IfSome, IfNone, IsErrOf};
-ghost use Rattle.ci_space.specs.Calls.{Rose, GoesOn};
+ghost use Rattle.ci_space.specs.Calls.{GoesOn};
+ghost use Rattle.fp_lists.specs.Faults.{Rose};
 ghost use Rattle.ci_space.specs.Interval.{IsInterval, kind_of};
 ghost use Rattle.ci_overflow.specs.Places.{first_base, first_independent};
 ghost use Rattle.ci_overflow.specs.Lists.{bytes_at, link_of, owner_of, IsOwned};

@@ -2,7 +2,8 @@
 //! leaves the list of its unit of work and becomes the first of the free chain.
 
 ghost use Rattle.std.specs.Prelude.{◌≡◌, ◌≢◌, ◌⊎◌, ◌<◌, ◌≤◌, ◌+◌, ℕ, length, IfOk, OnOk, IsErrOf};
-ghost use Rattle.ci_space.specs.Calls.{Rose, GoesOn};
+ghost use Rattle.ci_space.specs.Calls.{GoesOn};
+ghost use Rattle.fp_lists.specs.Faults.{Rose};
 ghost use Rattle.ci_space.specs.Interval.{IsInterval, IsUsed, IsEmpty, Keeps, kind_of};
 ghost use Rattle.ci_overflow.specs.Places.{first_independent};
 ghost use Rattle.ci_overflow.specs.Lists.{bytes_at, owner_of, IsInOrder};

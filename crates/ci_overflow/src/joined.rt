@@ -2,7 +2,8 @@
 //! or a new one.
 
 ghost use Rattle.std.specs.Prelude.{◌≡◌, ◌≢◌, ◌⊎◌, ◌<◌, ◌≤◌, ◌+◌, ◌*◌, ◌^◌, ℕ, List, length, IfOk, OnOk, IsErrOf};
-ghost use Rattle.ci_space.specs.Calls.{Rose, GoesOn};
+ghost use Rattle.ci_space.specs.Calls.{GoesOn};
+ghost use Rattle.fp_lists.specs.Faults.{Rose};
 ghost use Rattle.ci_space.specs.Interval.{IsInterval, IsFull, kind_of};
 ghost use Rattle.ci_overflow.specs.Places.{first_base, first_independent};
 ghost use Rattle.ci_overflow.specs.Lists.{bytes_at, link_of, owner_of, counted, first_free};

@@ -1,7 +1,8 @@
 //! The intervals that an anchor and its unit of work have, tried one after the other.
 
 ghost use Rattle.std.specs.Prelude.{◌≡◌, ◌≢◌, ◌<◌, ◌≤◌, ◌+◌, ◌*◌, ℕ, List, Err, IfOk, IfSome, IfNone, OnOk, IsErrOf};
-ghost use Rattle.ci_space.specs.Calls.{Rose, GoesOn};
+ghost use Rattle.ci_space.specs.Calls.{GoesOn};
+ghost use Rattle.fp_lists.specs.Faults.{Rose};
 ghost use Rattle.ci_space.specs.declared.intervals.Shape.{Shape as ShapeOf};
 ghost use Rattle.ci_overflow.specs.Places.{first_base, first_dependent, first_independent, uow_of};
 ghost use Rattle.ci_overflow.specs.Lists.{bytes_at, link_of, owner_of, IsChain, IsOwned};

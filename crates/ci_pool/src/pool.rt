@@ -10,7 +10,8 @@
 
 ghost use Rattle.std.specs.Prelude.{◌≡◌, ◌≢◌, ◌+◌, ◌*◌, ◌<◌, ◌≤◌, ◌^◌, ℕ, ◌==◌, ◌&&◌, not, filter, is_some, IsSome, if◌then◌else◌, [], List, length, IfOk, OnOk, OnErr, IfSome, IfNone, Some, None, Ok, Err, option_map, option_copied};
 ghost use Rattle.fp_site.specs.Disk.{Tears, Elapses, Leaves, Stays, Broken, written};
-ghost use Rattle.fp_site.specs.Site.{Counts, ReadsNothing};
+ghost use Rattle.fp_site.specs.Site.{ReadsNothing};
+ghost use Rattle.fp_lists.specs.Faults.{Counts};
 ghost use Rattle.ci_pool.specs.Cells.{renewed_by, pending_number};
 ghost use Rattle.ci_pool.specs.declared.cell.Waiting.{Waiting as Pending};
 ghost use Rattle.ci_pool.specs.declared.fault.PoolFault.TheVariants as fault;

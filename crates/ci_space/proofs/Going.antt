@@ -1,7 +1,8 @@
 -- One call on an area's intervals after another: what all of them keep, and that a count rose.
 use Rattle.std.proofs.Common.{inl, inr, ℕ, ◌≤◌, refl, ◌∙◌, arith}
 use Rattle.std.proofs.lemmas.Bool.{cases_lt}
-use Rattle.ci_space.specs.Calls.{Rose, GoesOn}
+use Rattle.ci_space.specs.Calls.{GoesOn}
+use Rattle.fp_lists.specs.Faults.{Rose}
 
 module _ {I : Type 0} (told : I → Type 0) (size faults : I → ℕ) (keeps : I → I → Type 0) where
   pub goes-itself : (a : I) → GoesOn told size faults keeps a a

@@ -1,10 +1,6 @@
 -- What the calls on the intervals of an area say.
 use Rattle.std.specs.Prelude.{◌≡◌, ◌⊎◌, ℕ, ◌-◌, ◌<◌, ◌≤◌, ◌^◌, List, length, All}
 
--- a count that rose, or stands at its last value
-abbrev pub Rose : ℕ → ℕ → Type 0
-Rose before now = (before < now) ⊎ (now ≡ 2 ^ 64 - 1)
-
 -- what every call keeps: what is told stays told, an interval's size stays, the count of faults never
 -- falls, and what was known since the first stays known
 pub record GoesOn {I : Type 0} (told : I → Type 0) (size faults : I → ℕ) (keeps : I → I → Type 0) (old new : I) : Type 0

@@ -2,7 +2,8 @@
 
 ghost use Rattle.std.specs.Prelude.{◌≡◌, ◌≢◌, ◌+◌, ◌*◌, ◌<◌, ◌≤◌, ◌^◌, ℕ, List, [], ◌∷◌, ◌++◌, length, slice_get, slice_set, IsTrue, IfOk, IfErr, OnOk, OnErr, IfSome, Some};
 ghost use Rattle.ci_space.specs.Interval.{IsInterval, is_size, empty_bytes};
-ghost use Rattle.ci_space.specs.Calls.{Rose, GoesOn, HaveSize};
+ghost use Rattle.ci_space.specs.Calls.{GoesOn, HaveSize};
+ghost use Rattle.fp_lists.specs.Faults.{Rose};
 
 use crate::{Interval, Memory};
 

@@ -4,7 +4,7 @@ use Rattle.std.specs.List.{AllByRecursion}
 use Rattle.std.specs.Prelude.{None, Some}
 use Rattle.fp_model.specs.Commit.{FillsPart, first_full, with_anchors, with_inserts}
 use Rattle.fp_model.specs.Items.{begins_with_image}
-use Rattle.fp_model.specs.State.{areas_of, first_area_set}
+use Rattle.fp_model.specs.State.{areas_of, first_area_set, roots_at}
 use Rattle.fp_model.specs.declared.calls.AnchorChange.{AnchorChange}
 use Rattle.fp_model.specs.declared.calls.SeqInsert.{SeqInsert}
 use Rattle.fp_model.specs.declared.database.Db.{Db}
@@ -15,14 +15,11 @@ use Rattle.ci_pool.specs.Held.{Held}
 use Rattle.area_redo.specs.Redo.{AreaBytes, redone}
 use Rattle.area_redo.specs.Standing.{Way, behind}
 use Rattle.area_states.specs.declared.place.Place.{Place}
-use Rattle.area_states.specs.Databases.{AreFor, area_in, state_of}
-use Rattle.area_states.specs.Places.{layout_of, place_at, places_of}
+use Rattle.area_states.specs.Databases.{AreFor, area_in, state_of, HasAnchorOf}
+use Rattle.area_states.specs.Places.{layout_of, place_at, places_of, has_anchor}
 use Rattle.area_states.specs.States.{HasState}
 use Rattle.std.proofs.lemmas.Bool.Decides.{nat_tests}
-use Rattle.fp_model.specs.State.{roots_at}
 use Rattle.root_changes.specs.Differing.{RootsDiffer}
-use Rattle.area_states.specs.Databases.{HasAnchorOf}
-use Rattle.area_states.specs.Places.{has_anchor}
 use Rattle.area_laws.proofs.AnchorAreas.{anchor_area, one_area}
 use Rattle.area_laws.proofs.Areawise.{databases_have, done_in_areas}
 use Rattle.dedb_area.proofs.Ones.{concerned_by}

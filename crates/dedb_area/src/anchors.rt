@@ -2,7 +2,7 @@
 
 ghost use Rattle.std.specs.Prelude.{◌≡◌, ◌≢◌, ◌+◌, ◌*◌, ◌<◌, ◌≤◌, ◌-◌, ◌^◌, ℕ, List, Ok, Err, Some, IfOk, IsErrOf, false, length, min, true};
 ghost use Rattle.fp_site.specs.Site.{ReadsNothing};
-ghost use Rattle.ci_space.specs.Calls.{Rose};
+ghost use Rattle.fp_lists.specs.Faults.{Rose};
 ghost use Rattle.root_anchor.specs.Chains.{anchor_count};
 ghost use Rattle.area_reading.specs.Damage.{IsUnreadable};
 ghost use Rattle.area_states.specs.Places.{IsPlace, counted_by, has_anchor};

@@ -1,10 +1,10 @@
 //! The areas of a site: their intervals at hand, and which data sets have to be synced.
 
 ghost use Rattle.std.specs.Prelude.{Err, IsErrOf, ◌≡◌, ◌≢◌, ◌+◌, ◌-◌, ◌≤◌, ◌<◌, ℕ, Ok, Some, None, true, false, IsSome, IfOk, OnOk, OnErr, IsTrue, slice_get, [], length, is_some};
-ghost use Rattle.fp_site.specs.Site.{Counts, ReadsNothing};
+ghost use Rattle.fp_site.specs.Site.{ReadsNothing};
+ghost use Rattle.fp_lists.specs.Faults.{Counts, Rose};
 ghost use Rattle.fp_model.specs.State.{roots_at};
 ghost use Rattle.fp_model.specs.WellFormed.{AreDefs};
-ghost use Rattle.ci_space.specs.Calls.{Rose};
 ghost use Rattle.ci_pool.specs.Held.{SameAtHand, pending_at, IsOldestSealed, NoneSealed, NoneOwes, IsFirstOwed, AreUnsealed};
 ghost use Rattle.ci_pool.specs.declared.cell.Waiting.{Waiting as Pending};
 ghost use Rattle.ci_pool.specs.declared.pool.Owed.TheVariants as owed;

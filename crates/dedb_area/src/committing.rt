@@ -12,7 +12,7 @@ ghost use Rattle.root_changes.specs.Differing.{RootsDiffer};
 ghost use Rattle.fp_model.specs.declared.database.Db.{Db};
 ghost use Rattle.fp_model.specs.declared.definitions.Defs.{Defs as DefsOf};
 ghost use Rattle.fp_site.specs.Site.{ReadsNothing};
-ghost use Rattle.ci_space.specs.Calls.{Rose};
+ghost use Rattle.fp_lists.specs.Faults.{Rose};
 ghost use Rattle.ci_pool.specs.declared.fault.PoolFault.TheVariants as pool_fault;
 ghost use Rattle.area_redo.specs.Redo.{AreaBytes, redone};
 ghost use Rattle.area_redo.specs.Standing.{Way, behind};

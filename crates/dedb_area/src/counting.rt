@@ -1,7 +1,7 @@
 //! How many intervals an area has.
 
 ghost use Rattle.std.specs.Prelude.{◌≡◌, ◌≢◌, ◌+◌, ◌*◌, ◌<◌, ◌≤◌, ◌^◌, ℕ, List, Err, Some, IfOk, IfSome, IfNone, IsErrOf, IsTrue, slice_index};
-ghost use Rattle.ci_space.specs.Calls.{Rose};
+ghost use Rattle.fp_lists.specs.Faults.{Rose};
 ghost use Rattle.ci_space.specs.Interval.{is_size, kind_of};
 ghost use Rattle.ci_space.specs.Head.{ends_of};
 ghost use Rattle.ci_overflow.specs.Places.{first_independent};

@@ -1,7 +1,7 @@
 //! Areas as they start.
 
 ghost use Rattle.std.specs.Prelude.{◌≡◌, ◌≢◌, ◌+◌, ◌-◌, ◌*◌, ◌<◌, ◌≤◌, ◌^◌, ℕ, [], ◌∷◌, List, Some, None, IfOk, OnOk, OnErr, IsErrOf, IsTrue, Err, length, slice_get};
-ghost use Rattle.ci_space.specs.Calls.{Rose};
+ghost use Rattle.fp_lists.specs.Faults.{Rose};
 ghost use Rattle.ci_space.specs.Interval.{is_size, is_kind, kind_of, empty_bytes};
 ghost use Rattle.ci_space.specs.Head.{ends_of};
 ghost use Rattle.ci_overflow.specs.Places.{first_independent, kind_at};

@@ -1,7 +1,7 @@
 //! Control of an area, and what it says.
 
 ghost use Rattle.std.specs.Prelude.{◌≡◌, ◌≢◌, ◌-◌, ◌<◌, ◌≤◌, ◌^◌, ◌*◌, ◌+◌, ℕ, List, length, slice_index, Some, IsSome, IsTrue, IfOk, IfSome, IfNone, IsErrOf, Err};
-ghost use Rattle.ci_space.specs.Calls.{Rose};
+ghost use Rattle.fp_lists.specs.Faults.{Rose};
 ghost use Rattle.ci_space.specs.Interval.{is_size, kind_of, IsInterval};
 ghost use Rattle.ci_space.specs.Head.{ends_of};
 ghost use Rattle.ci_pool.specs.Held.{IsClean, HasSize, SameAtHand, held_at, newest_in};

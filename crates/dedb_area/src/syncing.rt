@@ -2,7 +2,8 @@
 
 ghost use Rattle.std.specs.Prelude.{◌≡◌, ◌≢◌, ◌+◌, ◌≤◌, ℕ, Some, true, false, OnOk, slice_get, length};
 ghost use Rattle.fp_site.specs.Disk.{IsDurable};
-ghost use Rattle.fp_site.specs.Site.{Counts, ReadsNothing};
+ghost use Rattle.fp_site.specs.Site.{ReadsNothing};
+ghost use Rattle.fp_lists.specs.Faults.{Counts};
 ghost use Rattle.fp_model.specs.State.{first_area_set};
 ghost use Rattle.dedb_area.specs.Keeping.{SyncsAreas};
 

@@ -1,6 +1,7 @@
 -- What each step of a reading gave, where the whole has no fault.
 use Rattle.std.proofs.Common.{◌≡◌, Option, Some, None, Result, Ok, Err, refl}
-use Rattle.def_tables.specs.Readings.{◌>>=◌, or_fault}
+use Rattle.def_tables.specs.Readings.{or_fault}
+use Rattle.fp_model.specs.Readings.{◌>>=◌}
 use Rattle.def_tables.specs.declared.fault.DefsFault.{DefsFault}
 
 -- a step that may have a fault

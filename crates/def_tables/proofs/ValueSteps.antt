@@ -2,7 +2,8 @@
 use Rattle.std.proofs.Common.{◌≡◌, List, [], ◌∷◌, Option, Some, None, refl, subst}
 use Rattle.std.specs.List.{AllByRecursion}
 use Rattle.toml.specs.Data.{Data, Items, no_items, item}
-use Rattle.def_tables.specs.Values.{◌>>=◌, each}
+use Rattle.def_tables.specs.Values.{each}
+use Rattle.fp_model.specs.Values.{◌>>=◌}
 
 -- an optional step
 pub some_step : {A B : Type 0} (o : Option A) (step : A → Option B) (y : B) → (o >>= step) ≡ Some y → (x : A)

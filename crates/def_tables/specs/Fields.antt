@@ -4,7 +4,8 @@ use Rattle.toml.specs.Data.{Members}
 use Rattle.fp_model.specs.declared.definitions.FieldKind.{FieldKind}
 use Rattle.fp_model.specs.declared.definitions.FieldKind.TheVariants.{C, X, H, F, P}
 use Rattle.fp_model.specs.declared.definitions.FieldDef.{FieldDef}
-use Rattle.def_tables.specs.Readings.{◌>>=◌, or_fault}
+use Rattle.def_tables.specs.Readings.{or_fault}
+use Rattle.fp_model.specs.Readings.{◌>>=◌}
 use Rattle.def_tables.specs.Values.{as_triples}
 use Rattle.def_tables.specs.Keys.{needed, within, all_once}
 use Rattle.def_tables.specs.declared.fault.DefsFault.{DefsFault}

@@ -6,7 +6,8 @@ use Rattle.toml.specs.Data.{Data, Members, no_members, member, get_member, as_in
 use Rattle.fp_model.specs.declared.name.Name.{Name}
 use Rattle.fp_model.specs.declared.definitions.Kind.{Kind}
 use Rattle.fp_model.specs.Texts.{same_text, trimmed}
-use Rattle.def_tables.specs.Readings.{◌>>=◌, or_fault}
+use Rattle.def_tables.specs.Readings.{or_fault}
+use Rattle.fp_model.specs.Readings.{◌>>=◌}
 use Rattle.def_tables.specs.Values.{as_name, as_exit, as_tables}
 use Rattle.def_tables.specs.declared.fault.DefsFault.{DefsFault}
 use Rattle.def_tables.specs.declared.fault.DefsFault.TheVariants.{Missing, Unknown, OutOfLimit, Twice, BadField}

@@ -4,7 +4,8 @@ use Rattle.std.specs.Option.{option_map_or}
 use Rattle.toml.specs.Data.{Data, Members, get_member}
 use Rattle.fp_model.specs.declared.definitions.FieldDef.{FieldDef}
 use Rattle.fp_model.specs.State.{key_of}
-use Rattle.def_tables.specs.Readings.{◌>>=◌, or_fault}
+use Rattle.def_tables.specs.Readings.{or_fault}
+use Rattle.fp_model.specs.Readings.{◌>>=◌}
 use Rattle.def_tables.specs.Values.{as_segments}
 use Rattle.def_tables.specs.Keys.{all_once}
 use Rattle.def_tables.specs.declared.fault.DefsFault.{DefsFault}

@@ -2,12 +2,7 @@
 use Rattle.std.specs.Prelude.{◌≡◌, ◌≢◌, List, [], ◌∷◌, ◌++◌, Option, Some, None, Result, Ok, Err}
 use Rattle.def_tables.specs.declared.fault.DefsFault.{DefsFault}
 use Rattle.def_tables.specs.declared.fault.DefsFault.TheVariants.{Memory}
-
--- the next step, unless this one has a fault
-infixl 10 ◌>>=◌
-abbrev pub ◌>>=◌ : {A B : Type 0} → Result A DefsFault → (A → Result B DefsFault) → Result B DefsFault
-(Err fault) >>= step = Err fault
-(Ok x) >>= step = step x
+use Rattle.fp_model.specs.Readings.{◌>>=◌}
 
 -- the value, or this fault where there is none
 abbrev pub or_fault : {A : Type 0} → DefsFault → Option A → Result A DefsFault

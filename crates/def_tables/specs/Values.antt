@@ -15,12 +15,7 @@ use Rattle.fp_model.specs.Names.{name_in}
 use Rattle.fp_model.specs.Numbers.{bytes_of}
 use Rattle.fp_model.specs.WellFormed.{is_field_length}
 use Rattle.def_tables.specs.declared.fields.Triple.{Triple}
-
--- the next step, where there is a value
-infixl 10 ◌>>=◌
-abbrev pub ◌>>=◌ : {A B : Type 0} → Option A → (A → Option B) → Option B
-None >>= step = None
-(Some x) >>= step = step x
+use Rattle.fp_model.specs.Values.{◌>>=◌}
 
 -- what each item is, where each is something
 abbrev pub each : {A : Type 0} → (Data → Option A) → Items → Option (List A)

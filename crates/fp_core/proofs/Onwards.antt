@@ -2,7 +2,8 @@
 use Rattle.std.proofs.Common.{refl, ◌∙◌, arith, ℕ, ◌≤◌, List, inl, inr}
 use Rattle.fp_site.specs.Site.{ReadsNothing}
 use Rattle.fp_source.specs.declared.part.Part.{Part}
-use Rattle.fp_source.specs.Source.{ReadsOnly, Rose}
+use Rattle.fp_source.specs.Source.{ReadsOnly}
+use Rattle.fp_lists.specs.Faults.{Rose}
 use Rattle.fp_core.specs.Standing.{IsContinued}
 
 pub continued_none : {X : Type 0} (told : X → Type 0) (faults : X → ℕ) (holds : X → ℕ) (keeps : X → X → Type 0) (a : X)

@@ -8,7 +8,7 @@ use Rattle.fp_model.specs.declared.definitions.SegDef.{SegDef}
 use Rattle.fp_model.specs.State.{numbers_up}
 use Rattle.fp_model.specs.Order.{parent_of, line_within, line_to}
 use Rattle.fp_model.specs.WellFormed.{stored_length}
-use Rattle.def_tables.specs.Readings.{◌>>=◌}
+use Rattle.fp_model.specs.Readings.{◌>>=◌}
 use Rattle.def_tables.specs.Keys.{within}
 use Rattle.fp_defs.specs.Segments.{all_fit}
 use Rattle.fp_defs.specs.Dedbs.{depth_from}

@@ -7,7 +7,7 @@ use Rattle.fp_model.specs.declared.definitions.DedbDef.{DedbDef}
 use Rattle.fp_model.specs.declared.definitions.Kind.{Kind}
 use Rattle.fp_model.specs.declared.definitions.Defs.{Defs}
 use Rattle.fp_exits.specs.Kinds.{Kinds, has_kind}
-use Rattle.def_tables.specs.Readings.{◌>>=◌}
+use Rattle.fp_model.specs.Readings.{◌>>=◌}
 use Rattle.fp_defs.specs.Whole.{defs_of}
 use Rattle.fp_defs.specs.Exits.{first_lacking, lacking, with_exits, defs_for}
 use Rattle.def_tables.specs.declared.fault.DefsFault.{DefsFault}

@@ -5,7 +5,8 @@ use Rattle.std.proofs.lemmas.Str.{IsUtf8-from_is_utf8, is_utf8-from_IsUtf8}
 use Rattle.std.proofs.lemmas.Bool.Decides.{nat_tests}
 use Rattle.toml.specs.Data.{Members}
 use Rattle.toml.specs.Parse.{parse_document}
-use Rattle.def_tables.specs.Readings.{◌>>=◌, or_fault}
+use Rattle.def_tables.specs.Readings.{or_fault}
+use Rattle.fp_model.specs.Readings.{◌>>=◌}
 use Rattle.fp_defs.specs.Whole.{document_of, defs_in, defs_of}
 use Rattle.def_tables.specs.declared.fault.DefsFault.TheVariants.{NotToml}
 

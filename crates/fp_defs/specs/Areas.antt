@@ -3,7 +3,8 @@ use Rattle.std.specs.Prelude.{ℕ, ℤ, pos, negsuc, zero, suc, List, map, ◌++
 use Rattle.std.specs.Option.{option_map_or}
 use Rattle.toml.specs.Data.{Members, get_member, as_integer}
 use Rattle.fp_model.specs.declared.definitions.AreaDef.{AreaDef}
-use Rattle.def_tables.specs.Readings.{◌>>=◌, or_fault}
+use Rattle.def_tables.specs.Readings.{or_fault}
+use Rattle.fp_model.specs.Readings.{◌>>=◌}
 use Rattle.def_tables.specs.Keys.{only, new_name, number_at, within, number_or}
 use Rattle.def_tables.specs.declared.fault.DefsFault.{DefsFault}
 use Rattle.def_tables.specs.declared.fault.DefsFault.TheVariants.{BadField}

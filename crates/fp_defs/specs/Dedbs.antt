@@ -9,7 +9,8 @@ use Rattle.fp_model.specs.declared.definitions.DedbDef.{DedbDef}
 use Rattle.fp_model.specs.State.{anchor_count}
 use Rattle.fp_model.specs.Order.{line_to}
 use Rattle.fp_model.specs.WellFormed.{has_sequential, formatted_intervals}
-use Rattle.def_tables.specs.Readings.{◌>>=◌, or_fault, in_turn}
+use Rattle.def_tables.specs.Readings.{or_fault, in_turn}
+use Rattle.fp_model.specs.Readings.{◌>>=◌}
 use Rattle.def_tables.specs.Keys.{only, needed, new_name, exit_at, tables_at, within}
 use Rattle.fp_defs.specs.Msdbs.{msdb_names}
 use Rattle.fp_defs.specs.Segments.{segment_of, all_fit}

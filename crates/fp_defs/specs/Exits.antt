@@ -4,7 +4,7 @@ use Rattle.std.specs.Option.{option_map_or}
 use Rattle.fp_model.specs.declared.definitions.Kind.{Kind}
 use Rattle.fp_model.specs.declared.definitions.Defs.{Defs}
 use Rattle.fp_exits.specs.Kinds.{Kinds, has_kind}
-use Rattle.def_tables.specs.Readings.{◌>>=◌}
+use Rattle.fp_model.specs.Readings.{◌>>=◌}
 use Rattle.fp_defs.specs.Whole.{defs_of}
 use Rattle.def_tables.specs.declared.fault.DefsFault.{DefsFault}
 use Rattle.def_tables.specs.declared.fault.DefsFault.TheVariants.{NoExit}

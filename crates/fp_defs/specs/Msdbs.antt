@@ -2,7 +2,7 @@
 use Rattle.std.specs.Prelude.{ℕ, List, map, true, Result, Ok, codes}
 use Rattle.toml.specs.Data.{Members}
 use Rattle.fp_model.specs.declared.definitions.MsdbDef.{MsdbDef}
-use Rattle.def_tables.specs.Readings.{◌>>=◌}
+use Rattle.fp_model.specs.Readings.{◌>>=◌}
 use Rattle.def_tables.specs.Keys.{only, new_name, flag_at}
 use Rattle.def_tables.specs.Fields.{fields_at}
 use Rattle.def_tables.specs.Loads.{load_at}

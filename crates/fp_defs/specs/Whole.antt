@@ -9,7 +9,8 @@ use Rattle.fp_model.specs.declared.definitions.MsdbDef.{MsdbDef}
 use Rattle.fp_model.specs.declared.definitions.DedbDef.{DedbDef}
 use Rattle.fp_model.specs.declared.definitions.Defs.{Defs}
 use Rattle.fp_model.specs.State.{numbers_up}
-use Rattle.def_tables.specs.Readings.{◌>>=◌, or_fault, in_turn}
+use Rattle.def_tables.specs.Readings.{or_fault, in_turn}
+use Rattle.fp_model.specs.Readings.{◌>>=◌}
 use Rattle.def_tables.specs.Keys.{only, needed, within, number_within, number_or, exit_at, tables_or_none}
 use Rattle.fp_defs.specs.Msdbs.{msdb_of}
 use Rattle.fp_defs.specs.Dedbs.{dedb_of}

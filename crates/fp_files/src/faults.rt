@@ -1,6 +1,6 @@
 //! The count of faults, and the first one.
 ghost use Rattle.std.specs.Prelude.{◌≡◌, ◌≤◌, IsNone, IsSome, None, Some};
-ghost use Rattle.fp_source.specs.Source.{Rose};
+ghost use Rattle.fp_lists.specs.Faults.{Rose};
 
 use crate::cause::Cause;
 

@@ -7,8 +7,7 @@
 //! The first call on a data set locks the folder. The lock lasts as long as the site.
 ghost use Rattle.std.specs.Option.{ForSome};
 ghost use Rattle.std.specs.Prelude.{◌≡◌, ◌<◌, ◌≤◌, ◌+◌, ◌^◌, ◌≢◌, [], IfOk, IsErr, IsNone, IsSome, None, OnErr, OnOk, Some, length, true, vec_len};
-ghost use Rattle.fp_site.specs.Site.{Counts};
-ghost use Rattle.fp_source.specs.Source.{Rose};
+ghost use Rattle.fp_lists.specs.Faults.{Counts, Rose};
 ghost use Rattle.fp_files.specs.Calls.{is_written_out};
 ghost use Rattle.fp_files.specs.Files.{untold};
 ghost use Rattle.fp_files.specs.Output.{Gathers, WritesOut};

@@ -1,7 +1,7 @@
 //! The part files of a folder as a source.
 ghost use Rattle.std.specs.Option.{ForSome};
 ghost use Rattle.std.specs.Prelude.{◌≡◌, ◌<◌, ◌≤◌, ◌∷◌, [], IfOk, None, length};
-ghost use Rattle.fp_source.specs.Source.{Counts};
+ghost use Rattle.fp_lists.specs.Faults.{Counts};
 ghost use Rattle.fp_source.specs.declared.part.Part.{Part};
 ghost use Rattle.fp_files.specs.Calls.HostCall.{PartRead};
 ghost use Rattle.fp_files.specs.Files.{part_file_name};

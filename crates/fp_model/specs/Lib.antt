@@ -40,3 +40,4 @@ pub mod Pending
 pub mod WellFormed
 pub mod Shape
 pub mod FitCalls
+pub mod Readings

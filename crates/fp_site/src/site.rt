@@ -1,7 +1,8 @@
 //! The storage that everything else writes to, and the output that it sends to.
 ghost use Rattle.std.specs.Prelude.{◌≡◌, ◌+◌, ◌≤◌, ◌^◌, ◌++◌, ℕ, IfOk, OnErr, OnOk, length, take};
 ghost use Rattle.fp_site.specs.Disk.{Disk, written, read_range, Broken, IsDurable, Tears, Syncs, Sends, Elapses, Stays, Leaves, IsLawful};
-ghost use Rattle.fp_site.specs.Site.{Counts, ReadsNothing};
+ghost use Rattle.fp_site.specs.Site.{ReadsNothing};
+ghost use Rattle.fp_lists.specs.Faults.{Counts};
 
 /// A call that failed. It comes only where the site's count of faults rose in that call, or stands at its last
 /// value, 2^64 - 1.

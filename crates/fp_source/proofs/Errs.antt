@@ -6,7 +6,7 @@ use Rattle.fp_source.specs.declared.whole_part.WholeFault.{WholeFault}
 use Rattle.fp_source.specs.declared.whole_part.WholeFault.TheVariants as whole
 use Rattle.fp_source.specs.declared.lines.LineFault.{LineFault}
 use Rattle.fp_source.specs.declared.lines.LineFault.TheVariants as line
-use Rattle.fp_source.specs.Source.{Rose}
+use Rattle.fp_lists.specs.Faults.{Rose}
 use Rattle.fp_source.specs.Lines.{IsCausedBy}
 
 -- it says nothing of a value

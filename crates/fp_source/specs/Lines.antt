@@ -5,7 +5,7 @@ use Rattle.fp_model.specs.Messages.{LineFault, lines_of, raw_lines, fault_of_lin
 use Rattle.fp_source.specs.declared.lines.LineFault.{LineFault as Fault}
 use Rattle.fp_source.specs.declared.lines.LineFault.TheVariants.{Failed}
 use Rattle.fp_source.specs.declared.lines.Lines.{Lines}
-use Rattle.fp_source.specs.Source.{Rose}
+use Rattle.fp_lists.specs.Faults.{Rose}
 
 -- the bytes that were read and not given
 abbrev pub buffered : Lines → List ℕ

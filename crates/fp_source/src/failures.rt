@@ -1,7 +1,7 @@
 //! The calls that a source in memory is told to fail, and its count of faults.
 ghost use Rattle.std.specs.Prelude.{◌≡◌, ◌+◌, ◌-◌, ◌^◌, ◌==◌, ◌≤◌, IfOk, if◌then◌else◌, min, true};
 ghost use Rattle.std.specs.List.{list_any};
-ghost use Rattle.fp_source.specs.Source.{Rose};
+ghost use Rattle.fp_lists.specs.Faults.{Rose};
 
 use std::alloc::{AllocError, Global};
 

@@ -6,7 +6,8 @@
 ghost use Rattle.std.specs.Prelude.{◌≡◌, ◌<◌, ◌≤◌, ◌+◌, ◌∷◌, ◌++◌, ℕ, List, [], IfErr, IfOk, IfSome, IfNone, OnOk, IsErrOf, Some, None, length, true, false, if◌then◌else◌};
 ghost use Rattle.std.specs.Str.Lines.{strip_carriage_return};
 ghost use Rattle.fp_model.specs.Messages.{LineTooLong, TooManyLines, lines_of, line_fault};
-ghost use Rattle.fp_source.specs.Source.{Counts, ReadsOnly};
+ghost use Rattle.fp_source.specs.Source.{ReadsOnly};
+ghost use Rattle.fp_lists.specs.Faults.{Counts};
 ghost use Rattle.fp_source.specs.Newlines.{HasLongLine, HasNoNewline, IsFirstPart, after_part};
 
 use crate::{Failed, Part, Source};

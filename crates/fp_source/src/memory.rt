@@ -3,7 +3,7 @@
 //! A call told to fail does what a failing device may do: it fills `into` with bytes that stand nowhere.
 ghost use Rattle.std.specs.Prelude.{◌≡◌, ◌<◌, ◌≤◌, ◌++◌, ◌==◌, ℕ, [], IfOk, OnErr, length, take};
 ghost use Rattle.std.specs.List.{list_any};
-ghost use Rattle.fp_source.specs.Source.{Counts};
+ghost use Rattle.fp_lists.specs.Faults.{Counts};
 ghost use Rattle.fp_source.specs.declared.part.Part.{Part};
 
 use crate::failures::Failures;

@@ -1,6 +1,6 @@
 //! What the program reads: four parts, each given piece by piece.
 ghost use Rattle.std.specs.Prelude.{◌≡◌, ◌<◌, ◌≤◌, ◌++◌, ℕ, List, [], IfOk, OnErr, length, take};
-ghost use Rattle.fp_source.specs.Source.{Counts};
+ghost use Rattle.fp_lists.specs.Faults.{Counts};
 ghost use Rattle.fp_source.specs.declared.part.Part.{Part};
 
 use crate::Part;

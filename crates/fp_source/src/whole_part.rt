@@ -1,6 +1,7 @@
 //! A part to its end.
 ghost use Rattle.std.specs.Prelude.{◌≡◌, ◌<◌, ◌≤◌, [], IfOk, IsErrOf, OnOk, length};
-ghost use Rattle.fp_source.specs.Source.{ReadsOnly, Rose};
+ghost use Rattle.fp_source.specs.Source.{ReadsOnly};
+ghost use Rattle.fp_lists.specs.Faults.{Rose};
 
 use crate::{Failed, Part, Source};
 use fp_lists::Bytes;

@@ -2,9 +2,9 @@
 use Rattle.std.proofs.Common.{◌≡◌, ⊎_elim, eqb-true, inl, inr, refl, sym, ap, subst, ◌∙◌, arith, ℕ, ◌<◌, List, [], ◌∷◌, length, Bool, true, false, if◌then◌else◌, Option, Some, None}
 use Rattle.std.specs.Prelude.{◌==◌, ◌≢◌, ◌⊎◌, filter_map, map, nat_lt, Result, Ok, Err}
 use Rattle.std.specs.Option.{option_map_or}
-use Rattle.fp_defs.specs.Exits.{first_lacking, lacking, with_exits}
-use Rattle.def_tables.specs.Readings.{◌>>=◌}
-use Rattle.fp_exits.specs.Kinds.{has_kind}
+use Rattle.fp_defs.specs.Exits.{first_lacking, lacking, with_exits, defs_for}
+use Rattle.fp_model.specs.Readings.{◌>>=◌}
+use Rattle.fp_exits.specs.Kinds.{has_kind, Kinds}
 use Rattle.fp_model.specs.declared.definitions.DedbDef.{DedbDef}
 use Rattle.fp_model.specs.declared.definitions.Kind.{Kind}
 use Rattle.fp_model.specs.declared.events.Event.{Event}
@@ -15,9 +15,7 @@ use Rattle.fp_system.specs.Setups.{HasEventsFor, IsRefusedSchedule}
 use Rattle.command_words.specs.declared.words.Command.{Command}
 use Rattle.command_words.specs.declared.words.Command.TheVariants.{Define, Run, Show, Log, Migrate, Audit}
 use Rattle.std.proofs.lemmas.Bool.Decides.{nat_tests}
-use Rattle.fp_defs.specs.Exits.{defs_for}
 use Rattle.fp_defs.specs.Whole.{defs_of}
-use Rattle.fp_exits.specs.Kinds.{Kinds}
 use Rattle.def_tables.specs.declared.fault.DefsFault.{DefsFault}
 use Rattle.def_tables.specs.declared.fault.DefsFault.TheVariants as bad
 use Rattle.fp_model.specs.declared.definitions.Defs.{Defs}

@@ -1,7 +1,8 @@
 //! The body of a gated write.
 ghost use Rattle.fp_site.specs.Disk.{Disk, IsDurable, Settles, written};
 ghost use Rattle.fp_site.specs.Moments.{OnlyOn, Through};
-ghost use Rattle.fp_site.specs.Site.{Counts, ReadsNothing};
+ghost use Rattle.fp_site.specs.Site.{ReadsNothing};
+ghost use Rattle.fp_lists.specs.Faults.{Counts};
 ghost use Rattle.gated_write.specs.Gates.{AreFronts, AreUnopened, IsFrontOf, IsGatedImage, IsOpened, IsReady, IsUnopened, IsWriting, with_body};
 ghost use Rattle.std.specs.Prelude.{◌≡◌, ◌⊎◌, ◌+◌, ◌-◌, ◌<◌, ◌≤◌, ◌^◌, ◌∷◌, ◌++◌, ℕ, List as ListOf, OnOk, length};
 

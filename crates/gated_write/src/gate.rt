@@ -1,7 +1,8 @@
 //! The gate: it is closed before the body is written, and opened behind it.
 ghost use Rattle.fp_site.specs.Disk.{Disk, IsDurable, Settles, Stays, written};
 ghost use Rattle.fp_site.specs.Moments.{OnlyOn, Through};
-ghost use Rattle.fp_site.specs.Site.{Counts, ReadsNothing};
+ghost use Rattle.fp_site.specs.Site.{ReadsNothing};
+ghost use Rattle.fp_lists.specs.Faults.{Counts};
 ghost use Rattle.gated_write.specs.Gates.{AreFronts, IsClosed, IsFrontOf, IsOldOrShut, IsOpened, IsReady, IsShut, IsStaged, ReadsOnly};
 ghost use Rattle.std.specs.Prelude.{◌≡◌, ◌⊎◌, ◌+◌, ◌-◌, ◌<◌, ◌≤◌, ◌^◌, ◌∷◌, [], ℕ, IfOk, List as ListOf, OnOk, drop, length, slice_index, true, false};
 

@@ -4,7 +4,8 @@ ghost use Rattle.std.specs.Prelude.{◌≡◌, ◌≢◌, ◌+◌, ◌*◌, ◌<
 ghost use Rattle.std.specs.Ordering.{nat_cmp};
 ghost use Rattle.std.specs.BTreeMap.{get};
 ghost use Rattle.ci_space.specs.Interval.{IsInterval, is_size, empty_bytes};
-ghost use Rattle.ci_space.specs.Calls.{Rose, GoesOn, HaveSize};
+ghost use Rattle.ci_space.specs.Calls.{GoesOn, HaveSize};
+ghost use Rattle.fp_lists.specs.Faults.{Rose};
 ghost use Rattle.held_intervals.specs.Holding.{overlaid, AreRead, Fit, IsToldHeld, Keeps, keeps_itself, length-overlaid, sized-overlaid};
 
 use ci_space::{GetFault, Interval, Intervals, Memory};

@@ -7,7 +7,8 @@ use Rattle.std.proofs.lemmas.List.{take_at, drop_at, take-append-drop, length-ap
 use Rattle.std.proofs.lemmas.Nat.{be_bytes_2, be_bytes_4, be_bytes_8, from_be_bytes-to_be_bytes_2, from_be_bytes-to_be_bytes_4, from_be_bytes-to_be_bytes_8}
 use Rattle.fp_model.specs.Spellings.{be16, be32, be64, short_text, long_text, part_text}
 use Rattle.fp_model.specs.LogText.{IsBytes}
-use Rattle.log_format.specs.Reading.{◌>>=◌, byte_at, number_at, part_at, short_at, long_at, part_text_at}
+use Rattle.log_format.specs.Reading.{byte_at, number_at, part_at, short_at, long_at, part_text_at}
+use Rattle.fp_model.specs.Values.{◌>>=◌}
 use Rattle.log_format.specs.Laws.{Takes, Lawful, IsShorter}
 
 -- ---- bytes

@@ -3,7 +3,8 @@ use Rattle.std.proofs.Common.{◌≡◌, ℕ, suc, ◌-◌, ◌+◌, ◌≤◌, 
 use Rattle.std.proofs.lemmas.List.{append-nil}
 use Rattle.log_format.specs.declared.fault.ReadError.{ReadError}
 use Rattle.log_format.specs.declared.fault.ReadError.TheVariants as errors
-use Rattle.log_format.specs.Reading.{◌>>=◌, Fails, many_at}
+use Rattle.log_format.specs.Reading.{Fails, many_at}
+use Rattle.fp_model.specs.Values.{◌>>=◌}
 
 -- what was read before, and what is still read
 abbrev pub with_front : {X : Type 0} → List X → Option (List X × List ℕ) → Option (List X × List ℕ)

@@ -7,7 +7,8 @@ use Rattle.fp_model.specs.declared.log.Outcome.{Outcome}
 use Rattle.fp_model.specs.declared.log.Outcome.TheVariants as outcome
 use Rattle.fp_model.specs.declared.log.Entry.{Entry}
 use Rattle.fp_model.specs.ItemTargets.{precedes, is_ascending}
-use Rattle.log_format.specs.Reading.{◌>>=◌, byte_at, number_at, part_at, short_at, long_at, counted_at}
+use Rattle.log_format.specs.Reading.{byte_at, number_at, part_at, short_at, long_at, counted_at}
+use Rattle.fp_model.specs.Values.{◌>>=◌}
 
 -- a text behind its length in two bytes, of one byte or more
 unfoldable pub some_long_at : List ℕ → Option (List ℕ × List ℕ)

@@ -3,12 +3,7 @@ use Rattle.std.specs.Prelude.{◌≡◌, ℕ, zero, suc, List, [], ◌∷◌, le
 use Rattle.std.specs.Int.{Width, w16, w32, byte_len, from_be_bytes}
 use Rattle.log_format.specs.declared.fault.ReadError.{ReadError}
 use Rattle.log_format.specs.declared.fault.ReadError.TheVariants as errors
-
--- the next step, where there is one
-infixl 10 ◌>>=◌
-abbrev pub ◌>>=◌ : {A B : Type 0} → Option A → (A → Option B) → Option B
-None >>= f = None
-(Some x) >>= f = f x
+use Rattle.fp_model.specs.Values.{◌>>=◌}
 
 -- an error that is want of memory, or has bytes for its cause that can't be read
 abbrev pub Fails : {Y : Type 0} → ReadError → Option Y → Type 0

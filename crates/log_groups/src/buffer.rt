@@ -2,7 +2,8 @@
 ghost use Rattle.fp_model.specs.Spellings.{be64};
 ghost use Rattle.fp_site.specs.Disk.{Disk, IsDurable, Settles};
 ghost use Rattle.fp_site.specs.Moments.{OnlyOn, Through};
-ghost use Rattle.fp_site.specs.Site.{Counts, ReadsNothing};
+ghost use Rattle.fp_site.specs.Site.{ReadsNothing};
+ghost use Rattle.fp_lists.specs.Faults.{Counts};
 ghost use Rattle.gated_write.specs.Gates.{IsGatedImage};
 ghost use Rattle.log_groups.specs.Images.{HasFrontOf, IsFrontOf, IsGated, IsOpened};
 ghost use Rattle.fp_model.specs.LogText.{FitsEntry, HasSpelling, KeepsRules, body_text, entry_text};

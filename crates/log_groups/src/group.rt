@@ -3,7 +3,7 @@ ghost use Rattle.fp_model.specs.Groups.{IsDamaged};
 ghost use Rattle.fp_model.specs.Spellings.{be64};
 ghost use Rattle.fp_model.specs.declared.log.Entry.{Entry as EntryOf};
 ghost use Rattle.fp_site.specs.Disk.{Disk, Stays};
-ghost use Rattle.fp_site.specs.Site.{Counts};
+ghost use Rattle.fp_lists.specs.Faults.{Counts};
 ghost use Rattle.log_groups.specs.Reads.{HasBody, HasGroup, HasLength, ReadsOnlyLog};
 ghost use Rattle.log_groups.specs.declared.fault.LogFault.TheVariants as faults;
 ghost use Rattle.std.specs.Prelude.{

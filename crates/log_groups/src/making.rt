@@ -2,7 +2,7 @@
 ghost use Rattle.fp_model.specs.LogText.{FitsFront, first_gate, log_text};
 ghost use Rattle.fp_site.specs.Disk.{Disk, Settles};
 ghost use Rattle.fp_site.specs.Moments.{OnlyOn, Through};
-ghost use Rattle.fp_site.specs.Site.{Counts};
+ghost use Rattle.fp_lists.specs.Faults.{Counts};
 ghost use Rattle.log_groups.specs.Images.{IsAtRest, IsBeforeOrMade, IsBeforeOrShut, IsOldOrMade, IsOldOrShut, IsShut, as_front};
 ghost use Rattle.log_groups.specs.Reads.{ReadsOnlyLog};
 ghost use Rattle.log_groups.specs.declared.fault.LogFault.TheVariants as faults;

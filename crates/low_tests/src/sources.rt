@@ -33,7 +33,7 @@ struct Slow {
 }
 
 impl Source for Slow {
-    ghost use Rattle.fp_source.specs.Source.{Counts};
+    ghost use Rattle.fp_lists.specs.Faults.{Counts};
     ghost use Rattle.std.specs.Prelude.{◌≤◌, ◌<◌, IfOk, length};
 
     ghost told = { λ m. ⊥ };

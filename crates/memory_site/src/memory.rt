@@ -4,13 +4,12 @@
 //! text, and a read fills `into` with bytes that stand nowhere. A call that finds no memory changes nothing.
 ghost use Rattle.std.specs.Prelude.{◌≡◌, true, ◌⊎◌, ◌+◌, ◌-◌, ◌/◌, ◌<◌, ◌≤◌, ◌^◌, ◌↔◌, ℕ, [], ◌∷◌, ◌++◌, IfOk, IsTrue, None, OnErr, OnOk, get_or, length, min, take};
 ghost use Rattle.fp_site.specs.Disk.{Broken, Elapses, IsDurable, Leaves, Sends, Stays, Syncs, Tears, read_range, written};
-ghost use Rattle.fp_site.specs.Site.{Counts};
+ghost use Rattle.fp_lists.specs.Faults.{Counts};
 ghost use Rattle.memory_site.specs.History.{contents_after, disk_of, sent_after, synced_after};
 ghost use Rattle.memory_site.specs.History.Event.{Wrote, Synced, Sent};
 ghost use Rattle.memory_site.specs.Sets.{set_bytes, snapshot_of};
-ghost use Rattle.memory_site.specs.Past.{past_of};
+ghost use Rattle.memory_site.specs.Past.{past_of, Breaks};
 ghost use Rattle.memory_site.specs.Faults.{is_told};
-ghost use Rattle.memory_site.specs.Past.{Breaks};
 ghost use Rattle.memory_site.specs.Laws.{lawful, bounded_by};
 
 use crate::faults::Faults;

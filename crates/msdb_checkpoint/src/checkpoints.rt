@@ -4,7 +4,7 @@ ghost use Rattle.checkpoint_format.specs.Given.{terminals_of};
 ghost use Rattle.fp_model.specs.CheckpointText.{AreLasts};
 ghost use Rattle.fp_site.specs.Disk.{Disk, IsDurable, Settles};
 ghost use Rattle.fp_site.specs.Moments.{OnlyOn, Through};
-ghost use Rattle.fp_site.specs.Site.{Counts};
+ghost use Rattle.fp_lists.specs.Faults.{Counts};
 ghost use Rattle.gated_write.specs.Gates.{ReadsOnly};
 ghost use Rattle.msdb_checkpoint.specs.Given.{body_with};
 ghost use Rattle.msdb_checkpoint.specs.Steps.{IsOldClosedOrWhole, IsSure, IsSureNow, OnlyStage, StandsOn, Turn, WritesPiece, other_set, turns_left};

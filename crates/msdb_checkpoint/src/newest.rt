@@ -1,7 +1,7 @@
 //! Reading the newest checkpoint.
 ghost use Rattle.fp_model.specs.CheckpointText.{IsOpen};
 ghost use Rattle.fp_site.specs.Disk.{Disk, Stays, read_range};
-ghost use Rattle.fp_site.specs.Site.{Counts};
+ghost use Rattle.fp_lists.specs.Faults.{Counts};
 ghost use Rattle.gated_write.specs.Gates.{ReadsOnly};
 ghost use Rattle.msdb_checkpoint.specs.Newest.{HasBadHead, HasCheckpoint, HasNoCheckpoint, HasNumber, IsBadSet, IsDamagedSet, IsNewer, IsNewest, IsNotOpen, IsWhole, ReadsCheckpoints};
 ghost use Rattle.msdb_checkpoint.specs.declared.fault.CkptFault.TheVariants as faults;

@@ -1,7 +1,7 @@
 //! The stages of a checkpoint that is written in steps.
 ghost use Rattle.fp_site.specs.Disk.{Disk, Settles};
 ghost use Rattle.fp_site.specs.Moments.{OnlyOn, Through};
-ghost use Rattle.fp_site.specs.Site.{Counts};
+ghost use Rattle.fp_lists.specs.Faults.{Counts};
 ghost use Rattle.gated_write.specs.Gates.{ReadsOnly};
 ghost use Rattle.msdb_checkpoint.specs.Steps.{IsAt, IsNext, IsOldClosedOrWhole, IsSure, WritesPiece, left_behind, steps_left};
 ghost use Rattle.msdb_checkpoint.specs.declared.stages.Stage.TheVariants.{Begun, Synced, Written};

@@ -1,7 +1,8 @@
 //! The whole walk over an anchor, from its root anchor point on.
 
 ghost use Rattle.std.specs.Prelude.{◌≡◌, true, ◌<◌, ℕ, Err, IfOk, OnOk, IsErrOf};
-ghost use Rattle.ci_space.specs.Calls.{Rose, GoesOn};
+ghost use Rattle.ci_space.specs.Calls.{GoesOn};
+ghost use Rattle.fp_lists.specs.Faults.{Rose};
 ghost use Rattle.ci_overflow.specs.Lists.{IsInPlace};
 ghost use Rattle.ci_overflow.specs.Places.{base_of};
 ghost use Rattle.root_anchor.specs.Chains.{anchor_count, root_of};

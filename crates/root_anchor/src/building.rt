@@ -4,11 +4,11 @@
 //! pointer is known when it is written. The plan is in hierarchical order, and is used up from its end.
 
 ghost use Rattle.std.specs.Prelude.{◌≡◌, ◌≢◌, ◌<◌, ◌≤◌, ◌++◌, ◌∷◌, [], ℕ, List, Err, IfOk, IsErrOf, IsErr, length, map, replicate, true, false, Some};
-ghost use Rattle.ci_space.specs.Calls.{Rose, GoesOn};
+ghost use Rattle.ci_space.specs.Calls.{GoesOn};
+ghost use Rattle.fp_lists.specs.Faults.{Rose};
 ghost use Rattle.fp_model.specs.Order.{child_types};
-ghost use Rattle.anchor_elements.specs.Elements.{Pointer as PointerOf, has_serial, nothing, segment_length};
+ghost use Rattle.anchor_elements.specs.Elements.{Pointer as PointerOf, has_serial, nothing, segment_length, AreTypes};
 ghost use Rattle.root_anchor.specs.Chains.{newest};
-ghost use Rattle.anchor_elements.specs.Elements.{AreTypes};
 ghost use Rattle.root_anchor.specs.Stored.{are_storable, is_newest, row_has_form, rows_have_form};
 ghost use Rattle.root_anchor.specs.Rebuilding.{IsDirect, IsPlanned, BuildsSegment, BuildsRows, BuildsRoots, types_of_row, types_of_rows, types_of_roots, types_of_segment};
 ghost use Rattle.root_anchor.specs.declared.plan.Planned.{Planned as PlannedOf};

@@ -3,7 +3,8 @@
 //! The new segment is put into a new element, and then the one pointer that is to lead to it. All others stay.
 
 ghost use Rattle.std.specs.Prelude.{◌≡◌, ◌≢◌, ◌↔◌, ◌<◌, ◌≤◌, [], ℕ, List, Err, IfOk, OnOk, IsErrOf, IsTrue, true, false};
-ghost use Rattle.ci_space.specs.Calls.{Rose, GoesOn};
+ghost use Rattle.ci_space.specs.Calls.{GoesOn};
+ghost use Rattle.fp_lists.specs.Faults.{Rose};
 ghost use Rattle.ci_overflow.specs.Faults.{IsAtFault};
 ghost use Rattle.ci_overflow.specs.Lists.{IsInOrder, IsInPlace};
 ghost use Rattle.ci_overflow.specs.Places.{base_of};

@@ -4,12 +4,12 @@
 //! stands elsewhere isn't read.
 
 ghost use Rattle.std.specs.Prelude.{◌≡◌, ◌≢◌, ◌<◌, ◌≤◌, ℕ, List, Err, IfOk, IfSome, IsErrOf, IsSome, true, false, length};
-ghost use Rattle.ci_space.specs.Calls.{Rose, GoesOn};
+ghost use Rattle.ci_space.specs.Calls.{GoesOn};
+ghost use Rattle.fp_lists.specs.Faults.{Rose};
 ghost use Rattle.fp_model.specs.Order.{child_types};
 ghost use Rattle.fp_model.specs.Shape.{has_length};
 ghost use Rattle.fp_model.specs.WellFormed.{HavePlaces};
-ghost use Rattle.anchor_elements.specs.Elements.{AreTypes, Segment, has_serial};
-ghost use Rattle.anchor_elements.specs.Elements.{Pointer as PointerOf};
+ghost use Rattle.anchor_elements.specs.Elements.{AreTypes, Segment, has_serial, Pointer as PointerOf};
 ghost use Rattle.anchor_elements.specs.Reading.{types_of, pointers_of, segment_of};
 ghost use Rattle.root_anchor.specs.Chains.{anchor_count, root_of};
 ghost use Rattle.root_changes.specs.Differing.{DifferIn, RowDiffers, RootsDiffer};

@@ -5,11 +5,11 @@
 //! others hasn't such an element: the root anchor point leads to it.
 
 ghost use Rattle.std.specs.Prelude.{◌≡◌, ◌≢◌, ◌<◌, ◌≤◌, ℕ, List, Err, IfOk, IfSome, IsErrOf, IsSome, Some, true, false, length, slice_get};
-ghost use Rattle.ci_space.specs.Calls.{Rose, GoesOn};
+ghost use Rattle.ci_space.specs.Calls.{GoesOn};
+ghost use Rattle.fp_lists.specs.Faults.{Rose};
 ghost use Rattle.fp_model.specs.Order.{child_types};
 ghost use Rattle.fp_model.specs.WellFormed.{HavePlaces};
-ghost use Rattle.anchor_elements.specs.Elements.{AreTypes, Segment, HasSegment, has_serial, segment_length};
-ghost use Rattle.anchor_elements.specs.Elements.{Pointer as PointerOf};
+ghost use Rattle.anchor_elements.specs.Elements.{AreTypes, Segment, HasSegment, has_serial, segment_length, Pointer as PointerOf};
 ghost use Rattle.anchor_elements.specs.Reading.{types_of, pointers_of, segment_of};
 ghost use Rattle.root_changes.specs.Telling.{GainIn, TellsRootGain};
 ghost use Rattle.root_anchor.specs.Finding.{IsTwinAt, GiveRows, GivesRoots};

@@ -1,7 +1,8 @@
 //! The roots of an anchor, read from its elements.
 
 ghost use Rattle.std.specs.Prelude.{◌≡◌, ◌≢◌, ◌<◌, ℕ, Err, IfOk, OnOk, IsOk, IsErrOf, true};
-ghost use Rattle.ci_space.specs.Calls.{Rose, GoesOn};
+ghost use Rattle.ci_space.specs.Calls.{GoesOn};
+ghost use Rattle.fp_lists.specs.Faults.{Rose};
 ghost use Rattle.anchor_elements.specs.declared.fault.AnchorFault.{AnchorFault as AnchorFaultOf};
 ghost use Rattle.root_anchor.specs.Chains.{anchor_count};
 ghost use Rattle.root_anchor.specs.Damage.{ChainFails};

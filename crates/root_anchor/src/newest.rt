@@ -1,7 +1,8 @@
 //! The newest serial of one root is set, without the anchor's list.
 
 ghost use Rattle.std.specs.Prelude.{◌≡◌, ◌≢◌, ◌<◌, ◌≤◌, ℕ, List, Err, IfOk, OnOk, IsErrOf, true, false};
-ghost use Rattle.ci_space.specs.Calls.{Rose, GoesOn};
+ghost use Rattle.ci_space.specs.Calls.{GoesOn};
+ghost use Rattle.fp_lists.specs.Faults.{Rose};
 ghost use Rattle.fp_model.specs.WellFormed.{has_sequential};
 ghost use Rattle.anchor_elements.specs.Elements.{AreTypes, Segment, HasSegment};
 ghost use Rattle.anchor_elements.specs.Puts.{PutsSegment};

@@ -1,7 +1,8 @@
 //! Root anchor points that are put into an area.
 
 ghost use Rattle.std.specs.Prelude.{◌≡◌, ◌↔◌, ◌<◌, ℕ, List, Err, IfOk, OnOk, IsErrOf, IsTrue, IsFalse, false, length, IfSome, slice_get};
-ghost use Rattle.ci_space.specs.Calls.{Rose, GoesOn};
+ghost use Rattle.ci_space.specs.Calls.{GoesOn};
+ghost use Rattle.fp_lists.specs.Faults.{Rose};
 ghost use Rattle.ci_space.specs.Interval.{HasRoom, HasUsed, IsUsed, OthersStay, Keeps, SameSize};
 ghost use Rattle.ci_overflow.specs.Lists.{bytes_at, IsInPlace};
 ghost use Rattle.ci_overflow.specs.Places.{base_of};

@@ -4,7 +4,8 @@
 //! one segment more, it is put into a new element, and the pointer to it. Else the anchor is stored.
 
 ghost use Rattle.std.specs.Prelude.{◌≡◌, ◌≢◌, ◌⊎◌, ◌↔◌, ◌<◌, ◌≤◌, ℕ, List, Err, IfOk, OnOk, IsOk, IsErrOf, IsTrue, true, false};
-ghost use Rattle.ci_space.specs.Calls.{Rose, GoesOn};
+ghost use Rattle.ci_space.specs.Calls.{GoesOn};
+ghost use Rattle.fp_lists.specs.Faults.{Rose};
 ghost use Rattle.ci_overflow.specs.Lists.{IsInOrder};
 ghost use Rattle.anchor_elements.specs.Elements.{AreTypes, Segment, HasSegment};
 ghost use Rattle.anchor_elements.specs.Puts.{PutsSegment};

@@ -1,7 +1,8 @@
 //! The elements in which an anchor's segments stand.
 
 ghost use Rattle.std.specs.Prelude.{◌≡◌, ◌<◌, ℕ, Err, IfOk, IsErrOf};
-ghost use Rattle.ci_space.specs.Calls.{Rose, GoesOn};
+ghost use Rattle.ci_space.specs.Calls.{GoesOn};
+ghost use Rattle.fp_lists.specs.Faults.{Rose};
 ghost use Rattle.root_anchor.specs.Chains.{anchor_count};
 ghost use Rattle.root_anchor.specs.Damage.{ChainFails};
 ghost use Rattle.root_anchor.specs.Standing.{AreStanding, AreInTurn, AreKeyed};

@@ -5,7 +5,8 @@
 //! point is put. An element that says the same as before isn't written.
 
 ghost use Rattle.std.specs.Prelude.{◌≡◌, ◌≢◌, ◌<◌, ◌≤◌, [], ℕ, List, Err, OnOk, IsErrOf, true};
-ghost use Rattle.ci_space.specs.Calls.{Rose, GoesOn};
+ghost use Rattle.ci_space.specs.Calls.{GoesOn};
+ghost use Rattle.fp_lists.specs.Faults.{Rose};
 ghost use Rattle.ci_overflow.specs.Lists.{IsInOrder};
 ghost use Rattle.root_anchor.specs.Chains.{IsChain, anchor_count};
 ghost use Rattle.root_anchor.specs.Damage.{ChainFails};

@@ -4,7 +4,8 @@
 //! element of the same length stopped.
 
 ghost use Rattle.std.specs.Prelude.{◌≡◌, ◌≢◌, ◌<◌, ◌≤◌, ℕ, List, All, Err, IfOk, OnOk, IsErrOf, Some};
-ghost use Rattle.ci_space.specs.Calls.{Rose, GoesOn};
+ghost use Rattle.ci_space.specs.Calls.{GoesOn};
+ghost use Rattle.fp_lists.specs.Faults.{Rose};
 ghost use Rattle.ci_overflow.specs.Faults.{IsAtFault};
 ghost use Rattle.ci_overflow.specs.Known.{HasSeen};
 ghost use Rattle.ci_overflow.specs.Lists.{IsInOrder};

@@ -3,7 +3,8 @@
 //! No element is met twice, so the walk ends whatever the pointers are: what was met are distinct places in the area.
 
 ghost use Rattle.std.specs.Prelude.{◌≡◌, ◌↔◌, ◌+◌, ◌≤◌, ◌<◌, ◌∷◌, ◌++◌, [], true, false, ℕ, Err, List, length, slice_get, All, Contains, IsTrue, IfOk, OnOk, IsErrOf};
-ghost use Rattle.ci_space.specs.Calls.{Rose, GoesOn};
+ghost use Rattle.ci_space.specs.Calls.{GoesOn};
+ghost use Rattle.fp_lists.specs.Faults.{Rose};
 ghost use Rattle.fp_model.specs.Order.{child_types, key_in};
 ghost use Rattle.fp_model.specs.Shape.{has_length};
 ghost use Rattle.fp_model.specs.WellFormed.{HavePlaces};

@@ -23,7 +23,8 @@ ghost use Rattle.std.specs.Prelude.{
 ghost use Rattle.std.specs.Ordering.{nat_cmp};
 ghost use Rattle.std.specs.BTreeMap.{get};
 ghost use Rattle.held_intervals.specs.Holding.{overlaid, Fit};
-ghost use Rattle.ci_space.specs.Calls.{Rose, GoesOn};
+ghost use Rattle.ci_space.specs.Calls.{GoesOn};
+ghost use Rattle.fp_lists.specs.Faults.{Rose};
 ghost use Rattle.ci_space.specs.Interval.{IsInterval, kind_of};
 ghost use Rattle.ci_overflow.specs.Lists.{bytes_at};
 ghost use Rattle.seq_dependents.specs.Control.{AreEnds, IsControlOf, begin_of, end_of};

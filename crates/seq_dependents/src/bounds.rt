@@ -1,7 +1,8 @@
 //! The two ends of a sequential part.
 
 ghost use Rattle.std.specs.Prelude.{◌≡◌, ◌≢◌, ◌-◌, ◌≤◌, ℕ, Err, IfOk, OnOk, IsErrOf};
-ghost use Rattle.ci_space.specs.Calls.{Rose, GoesOn};
+ghost use Rattle.ci_space.specs.Calls.{GoesOn};
+ghost use Rattle.fp_lists.specs.Faults.{Rose};
 ghost use Rattle.seq_dependents.specs.Control.{AreEnds, IsControlOf, begin_of, end_of};
 
 use crate::SeqFault;

@@ -19,7 +19,8 @@ ghost use Rattle.std.specs.Prelude.{
   IfSome,
   IsSome,
 };
-ghost use Rattle.ci_space.specs.Calls.{Rose, GoesOn};
+ghost use Rattle.ci_space.specs.Calls.{GoesOn};
+ghost use Rattle.fp_lists.specs.Faults.{Rose};
 ghost use Rattle.ci_space.specs.Interval.{IsInterval, kind_of};
 ghost use Rattle.ci_overflow.specs.Lists.{bytes_at};
 ghost use Rattle.ci_overflow.specs.Rooms.{IsPut};

@@ -1,7 +1,8 @@
 //! A root's sequential dependents, from the newest down.
 
 ghost use Rattle.std.specs.Prelude.{◌≡◌, ◌≢◌, ◌<◌, ◌++◌, ◌∷◌, [], ℕ, length, Err, IfOk, IfSome, OnOk, IsErrOf};
-ghost use Rattle.ci_space.specs.Calls.{Rose, GoesOn};
+ghost use Rattle.ci_space.specs.Calls.{GoesOn};
+ghost use Rattle.fp_lists.specs.Faults.{Rose};
 ghost use Rattle.ci_space.specs.Interval.{kind_of};
 ghost use Rattle.seq_dependents.specs.Control.{IsKept, IsControlOf};
 ghost use Rattle.seq_dependents.specs.Down.{IsDown, IsRead};

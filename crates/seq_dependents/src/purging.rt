@@ -1,7 +1,8 @@
 //! The oldest sequential dependents are given up.
 
 ghost use Rattle.std.specs.Prelude.{◌≡◌, ◌≢◌, ◌+◌, ◌≤◌, ℕ, min, Err, IfOk, OnOk, OnErr, IsErrOf};
-ghost use Rattle.ci_space.specs.Calls.{Rose, GoesOn};
+ghost use Rattle.ci_space.specs.Calls.{GoesOn};
+ghost use Rattle.fp_lists.specs.Faults.{Rose};
 ghost use Rattle.seq_dependents.specs.Control.{IsControl, AreEnds, PutsEnds, begin_of, end_of};
 
 use crate::SeqFault;

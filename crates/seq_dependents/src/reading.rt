@@ -1,7 +1,8 @@
 //! What a serial of a sequential part names.
 
 ghost use Rattle.std.specs.Prelude.{◌≡◌, ◌≢◌, ◌↔◌, ℕ, Err, IfOk, OnOk, IsErrOf, IfSome, IsSome};
-ghost use Rattle.ci_space.specs.Calls.{Rose, GoesOn};
+ghost use Rattle.ci_space.specs.Calls.{GoesOn};
+ghost use Rattle.fp_lists.specs.Faults.{Rose};
 ghost use Rattle.seq_dependents.specs.Control.{IsKept, IsControlOf};
 ghost use Rattle.seq_dependents.specs.Faults.{IsAtFault};
 ghost use Rattle.seq_dependents.specs.Slots.{HoldsCapacity, IsHeld, part_of};

@@ -1,7 +1,8 @@
 //! A slot of a sequential part is written.
 
 ghost use Rattle.std.specs.Prelude.{◌≡◌, ◌≢◌, ◌+◌, ◌≤◌, ◌^◌, ℕ, length, All, Err, IfOk, OnOk, IsErrOf};
-ghost use Rattle.ci_space.specs.Calls.{Rose, GoesOn};
+ghost use Rattle.ci_space.specs.Calls.{GoesOn};
+ghost use Rattle.fp_lists.specs.Faults.{Rose};
 ghost use Rattle.seq_dependents.specs.Faults.{IsMisplaced, IsAtFault};
 ghost use Rattle.seq_dependents.specs.Puts.{PutsSlot, Fills, linked_to};
 ghost use Rattle.seq_dependents.specs.Slots.{HoldsCapacity, Holds};

@@ -1,6 +1,6 @@
 -- Scripts that were read call what is defined, and none costs too much.
 use Rattle.std.proofs.Common.{◌≡◌, refl, sym, ap, subst, ◌∙◌, arith, ℕ, zero, suc, ◌+◌, ◌-◌, ◌≤◌, ◌<◌, List, [], ◌∷◌, ◌++◌, length, map, Bool, true, false, ◌&&◌, if◌then◌else◌, Option, Some, None, Result, Ok, Err, slice_get}
-use Rattle.std.specs.Prelude.{nat_lt, nat_le, position, option_map, is_some}
+use Rattle.std.specs.Prelude.{nat_lt, nat_le, position, option_map, is_some, min, not}
 use Rattle.std.specs.List.{AllByRecursion, list_all}
 use Rattle.std.proofs.lemmas.Grind.{common_steps}
 use Rattle.std.proofs.lemmas.Bool.{and_parts}
@@ -21,7 +21,6 @@ use Rattle.fp_model.specs.declared.scripts.Statement.TheFolds.{fold-Statement, f
 use Rattle.fp_model.specs.FitCalls.{are_fit, fits_statement, fits_step, is_some_few}
 use Rattle.txn_lang.specs.declared.line.Line.{Line}
 use Rattle.txn_lang.specs.declared.line.Line.TheVariants as line
-use Rattle.std.specs.Prelude.{min, not}
 use Rattle.fp_model.specs.declared.calls.Get.{Get}
 use Rattle.fp_model.specs.declared.scripts.FsaText.{FsaText}
 use Rattle.fp_model.specs.Messages.{lines_of}
@@ -32,7 +31,8 @@ use Rattle.txn_tokens.specs.declared.fault.LineFault.TheVariants.{Syntax, Unknow
 use Rattle.txn_lang.specs.declared.line.Keyword.{Keyword}
 use Rattle.txn_lang.specs.declared.line.Keyword.TheVariants as keyword
 use Rattle.txn_tokens.specs.declared.token.Token.{Token}
-use Rattle.txn_tokens.specs.Readings.{Reading, ◌>>=◌, all_by, ended}
+use Rattle.txn_tokens.specs.Readings.{Reading, all_by, ended}
+use Rattle.fp_model.specs.Readings.{◌>>=◌}
 use Rattle.txn_tokens.specs.Tokens.{or_syntax, tokens_of}
 use Rattle.txn_tokens.specs.Parts.{word_at, variable_at, operand_at, comparison_at, count_at, key_at, operands_in, ssas_in, fsa_at, fsas_in, fields_in, one_to_255}
 use Rattle.txn_tokens.specs.Lookups.{are_known, db_by, db_of, dedb_ssas, get_ssas, has_name, is_msdb, isrt_count, isrt_fields, isrt_ssas, or_unknown, segment_of, types_of}
@@ -45,8 +45,7 @@ use Rattle.fp_model.specs.declared.scripts.SsaText.{SsaText}
 use Rattle.std.specs.Option.{option_map_or}
 use Rattle.txn_lang.specs.Statements.{before_fields, dlet_line, fld_line, from_fields, get_line, if_line, isrt_line, keyword_at, line_behind, repeat_line, repl_line, reply_line, rolb_line, set_line, set_rest, tran_line, whole}
 use Rattle.txn_lang.specs.Grammar.{AreScriptsOf, Read, and_then, fault_of_script, in_front, is_ascii, is_skipped, line_in, lines_in, numbered, or_later, script_fault, scripts_fault, statement_in}
-use Rattle.txn_lang.specs.Blocks.{Context, at_top, stands}
-use Rattle.txn_lang.specs.Blocks.{choice, loop, AreStatements, none, one, if_end, if_else_end, repeat_end, AreScripts, no_script, script}
+use Rattle.txn_lang.specs.Blocks.{Context, at_top, stands, choice, loop, AreStatements, none, one, if_end, if_else_end, repeat_end, AreScripts, no_script, script}
 
 -- how one statement is judged: blocks by all in them, and what is no call isn't looked at
 pub record Judges (step : Statement-F Bool → Bool) : Type 0 where

@@ -21,7 +21,8 @@ use Rattle.txn_lang.specs.declared.line.Keyword.{Keyword}
 use Rattle.txn_lang.specs.declared.line.Keyword.TheVariants as keyword
 use Rattle.txn_lang.specs.declared.line.Line.{Line}
 use Rattle.txn_lang.specs.declared.line.Line.TheVariants as line
-use Rattle.txn_tokens.specs.Readings.{Reading, ◌>>=◌, Fails, ended}
+use Rattle.txn_tokens.specs.Readings.{Reading, Fails, ended}
+use Rattle.fp_model.specs.Readings.{◌>>=◌}
 use Rattle.txn_tokens.specs.Tokens.{tokens_of}
 use Rattle.txn_tokens.specs.Parts.{token_in, count_within, count_of, count_at, word_at, variable_at, operand_at, comparison_at, key_at, operands_in, ssas_in, fsas_in, fields_in}
 use Rattle.txn_tokens.specs.Lookups.{are_known, db_of, get_ssas, isrt_ssas, isrt_fields}

@@ -15,7 +15,8 @@ use Rattle.txn_lang.specs.declared.standing.Builder.{Builder}
 use Rattle.fp_model.specs.declared.definitions.Defs.{Defs}
 use Rattle.txn_tokens.specs.declared.fault.LineFault.TheVariants.{Syntax, UnknownName}
 use Rattle.txn_lang.specs.declared.line.Keyword.{Keyword}
-use Rattle.txn_tokens.specs.Readings.{Reading, ◌>>=◌}
+use Rattle.txn_tokens.specs.Readings.{Reading}
+use Rattle.fp_model.specs.Readings.{◌>>=◌}
 use Rattle.txn_tokens.specs.Tokens.{tokens_of}
 use Rattle.txn_tokens.specs.Lookups.{are_known}
 use Rattle.txn_lang.specs.Statements.{keyword_at, line_behind}

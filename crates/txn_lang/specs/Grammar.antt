@@ -10,7 +10,8 @@ use Rattle.txn_lang.specs.declared.fault.ScriptFault.TheVariants as fault
 use Rattle.txn_tokens.specs.declared.fault.LineFault.{LineFault}
 use Rattle.txn_tokens.specs.declared.fault.LineFault.TheVariants.{Syntax, UnknownName, Memory}
 use Rattle.txn_lang.specs.declared.line.Line.{Line}
-use Rattle.txn_tokens.specs.Readings.{Reading, ◌>>=◌}
+use Rattle.txn_tokens.specs.Readings.{Reading}
+use Rattle.fp_model.specs.Readings.{◌>>=◌}
 use Rattle.txn_tokens.specs.Tokens.{or_syntax, unblanked, tokens_of}
 use Rattle.txn_tokens.specs.Lookups.{are_known}
 use Rattle.txn_lang.specs.Statements.{keyword_at, line_behind}

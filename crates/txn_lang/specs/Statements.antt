@@ -15,7 +15,8 @@ use Rattle.txn_lang.specs.declared.line.Keyword.{Keyword}
 use Rattle.txn_lang.specs.declared.line.Keyword.TheVariants as keyword
 use Rattle.txn_lang.specs.declared.line.Line.{Line}
 use Rattle.txn_lang.specs.declared.line.Line.TheVariants as line
-use Rattle.txn_tokens.specs.Readings.{Reading, ◌>>=◌, ended}
+use Rattle.txn_tokens.specs.Readings.{Reading, ended}
+use Rattle.fp_model.specs.Readings.{◌>>=◌}
 use Rattle.txn_tokens.specs.Tokens.{or_syntax}
 use Rattle.txn_tokens.specs.Parts.{entry_of, word_at, variable_at, operand_at, operation_at, comparison_at, count_at, key_at, operands_in, ssas_in, fsas_in, fields_in}
 use Rattle.txn_tokens.specs.Lookups.{db_of, get_ssas, isrt_ssas, isrt_fields}

@@ -13,7 +13,8 @@ use Rattle.fp_model.specs.declared.scripts.SsaText.{SsaText}
 use Rattle.txn_tokens.specs.declared.fault.LineFault.{LineFault}
 use Rattle.txn_tokens.specs.declared.fault.LineFault.TheVariants.{Syntax, UnknownName, Memory}
 use Rattle.txn_tokens.specs.declared.written.WrittenSsa.{WrittenSsa}
-use Rattle.txn_tokens.specs.Readings.{Reading, ◌>>=◌, Fails}
+use Rattle.txn_tokens.specs.Readings.{Reading, Fails}
+use Rattle.fp_model.specs.Readings.{◌>>=◌}
 use Rattle.txn_tokens.specs.Lookups.{segment_of, dedb_ssas, HaveByteNumbers}
 use Rattle.txn_tokens.proofs.ReadingLemmas.{with_front, regroup}
 

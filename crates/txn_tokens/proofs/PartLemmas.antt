@@ -1,7 +1,8 @@
 -- Each part of a statement takes some tokens.
 use Rattle.std.proofs.Common.{ℕ, suc, ◌≤◌, ◌<◌, List, [], ◌∷◌, length, Ok, Err, arith}
 use Rattle.txn_tokens.specs.declared.token.Token.{Token}
-use Rattle.txn_tokens.specs.Readings.{Reading, ◌>>=◌}
+use Rattle.txn_tokens.specs.Readings.{Reading}
+use Rattle.fp_model.specs.Readings.{◌>>=◌}
 use Rattle.txn_tokens.specs.Parts.{one_token, word_of, word_at, sign_is, sign_at, operand_of, operand_at, bracket_at, begins_bracket, key_behind, ssa_at, fsa_op_of, fsa_at, field_at}
 use Rattle.txn_tokens.proofs.ReadingLemmas.{IsShorter, Shrinks, shorter_if, shorter_bind, shorter_le}
 

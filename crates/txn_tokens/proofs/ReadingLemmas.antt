@@ -5,7 +5,8 @@ use Rattle.std.proofs.lemmas.Bool.{eqb-true}
 use Rattle.std.proofs.lemmas.List.{append-nil}
 use Rattle.txn_tokens.specs.declared.fault.LineFault.{LineFault}
 use Rattle.txn_tokens.specs.declared.fault.LineFault.TheVariants.{Syntax, UnknownName, Memory}
-use Rattle.txn_tokens.specs.Readings.{Reading, ◌>>=◌, many, all_by, Fails}
+use Rattle.txn_tokens.specs.Readings.{Reading, many, all_by, Fails}
+use Rattle.fp_model.specs.Readings.{◌>>=◌}
 use Rattle.txn_tokens.specs.Tokens.{or_syntax}
 
 -- what a reading leaves is shorter than so many

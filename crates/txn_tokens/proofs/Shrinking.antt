@@ -9,7 +9,8 @@ use Rattle.fp_model.specs.Texts.{is_printable, same_text}
 use Rattle.fp_model.specs.Names.{is_letter, is_letter_or_digit, is_name}
 use Rattle.fp_model.specs.Messages.{is_separator}
 use Rattle.txn_tokens.specs.declared.token.Token.{Token}
-use Rattle.txn_tokens.specs.Readings.{Reading, ◌>>=◌}
+use Rattle.txn_tokens.specs.Readings.{Reading}
+use Rattle.fp_model.specs.Readings.{◌>>=◌}
 use Rattle.txn_tokens.specs.Tokens.{run, behind, unblanked, is_digit, is_sign, begins, begins_with, field_token, letter_token, number_token, text_token, hash_token, token_at, spaced_token_at}
 use Rattle.txn_tokens.proofs.ReadingLemmas.{IsShorter, Shrinks, shorter_if, shorter_option}
 

@@ -16,7 +16,8 @@ use Rattle.txn_tokens.specs.declared.fault.LineFault.TheVariants.{Syntax, Unknow
 use Rattle.txn_tokens.specs.declared.token.Token.{Token}
 use Rattle.txn_tokens.specs.declared.token.Token.TheVariants.{Word, Number, Text, Hash, Field, Sign}
 use Rattle.txn_tokens.specs.declared.written.WrittenSsa.{WrittenSsa}
-use Rattle.txn_tokens.specs.Readings.{Reading, ◌>>=◌}
+use Rattle.txn_tokens.specs.Readings.{Reading}
+use Rattle.fp_model.specs.Readings.{◌>>=◌}
 use Rattle.txn_tokens.specs.Parts.{is_word}
 
 -- what is there, or a name that isn't defined

@@ -14,7 +14,8 @@ use Rattle.txn_tokens.specs.declared.fault.LineFault.TheVariants.{Syntax}
 use Rattle.txn_tokens.specs.declared.token.Token.{Token}
 use Rattle.txn_tokens.specs.declared.token.Token.TheVariants.{Word, Number, Text, Hash, Field, Sign}
 use Rattle.txn_tokens.specs.declared.written.WrittenSsa.{WrittenSsa}
-use Rattle.txn_tokens.specs.Readings.{Reading, ◌>>=◌, all_by}
+use Rattle.txn_tokens.specs.Readings.{Reading, all_by}
+use Rattle.fp_model.specs.Readings.{◌>>=◌}
 use Rattle.txn_tokens.specs.Tokens.{or_syntax}
 
 -- whether a name has these letters

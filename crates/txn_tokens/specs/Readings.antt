@@ -2,16 +2,11 @@
 use Rattle.std.specs.Prelude.{◌≡◌, ⊤, ℕ, zero, suc, List, [], ◌∷◌, length, Result, Ok, Err}
 use Rattle.txn_tokens.specs.declared.fault.LineFault.{LineFault}
 use Rattle.txn_tokens.specs.declared.fault.LineFault.TheVariants.{Syntax, UnknownName, Memory}
+use Rattle.fp_model.specs.Readings.{◌>>=◌}
 
 -- a part that was read, or why the line is none; no reading fails for want of memory, which only the code knows
 abbrev pub Reading : Type 0 → Type 0
 Reading A = Result A LineFault
-
--- a part, and what is made of it
-infixl 10 ◌>>=◌
-abbrev pub ◌>>=◌ : {A B : Type 0} → Reading A → (A → Reading B) → Reading B
-(Ok x) >>= f = f x
-(Err e) >>= f = Err e
 
 -- at most so many parts, one after another, up to the end
 abbrev pub many : {X A : Type 0} → (List X → Reading (A × List X)) → ℕ → List X → Reading (List A)

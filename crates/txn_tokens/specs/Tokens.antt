@@ -8,7 +8,8 @@ use Rattle.fp_model.specs.Messages.{is_separator}
 use Rattle.txn_tokens.specs.declared.fault.LineFault.TheVariants.{Syntax}
 use Rattle.txn_tokens.specs.declared.token.Token.{Token}
 use Rattle.txn_tokens.specs.declared.token.Token.TheVariants.{Word, Number, Text, Hash, Field, Sign}
-use Rattle.txn_tokens.specs.Readings.{Reading, ◌>>=◌, all_by}
+use Rattle.txn_tokens.specs.Readings.{Reading, all_by}
+use Rattle.fp_model.specs.Readings.{◌>>=◌}
 
 -- what is there, or a line that is no statement
 abbrev pub or_syntax : {A : Type 0} → Option A → Reading A

@@ -2,7 +2,7 @@ use Rattle.std.proofs.Common.{◌∙◌, refl, sym, ap, subst, rules}
 use Rattle.std.specs.Ordering.{nat_cmp}
 use Rattle.std.specs.BTreeMap.{get}
 use Rattle.fp_site.specs.Site.{ReadsNothing}
-use Rattle.ci_space.specs.Calls.{Rose}
+use Rattle.fp_lists.specs.Faults.{Rose}
 use Rattle.area_reading.specs.Damage.{IsUnreadable}
 use Rattle.area_states.specs.States.{HasAnchor}
 use Rattle.std.specs.Prelude.{IfOk}

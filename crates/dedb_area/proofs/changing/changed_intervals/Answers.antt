@@ -3,7 +3,7 @@ use Rattle.std.specs.Prelude.{min}
 use Rattle.std.specs.Ordering.{nat_cmp}
 use Rattle.std.specs.BTreeMap.{get}
 use Rattle.fp_site.specs.Site.{ReadsNothing}
-use Rattle.ci_space.specs.Calls.{Rose}
+use Rattle.fp_lists.specs.Faults.{Rose}
 use Rattle.area_states.specs.States.{HasState}
 use Rattle.ci_pool.specs.Held.{SameAtHand}
 use Rattle.area_staging.specs.Changing.{AreWithin}
