@@ -10,7 +10,8 @@ use Rattle.fp_model.specs.declared.definitions.SegDef.{SegDef}
 use Rattle.fp_model.specs.Order.{numbers_from}
 use Rattle.anchor_elements.specs.Elements.{Pointer, Segment, pointer_at, pointers_from}
 use Rattle.anchor_elements.specs.declared.element.First.{First}
-use Rattle.anchor_elements.specs.Reading.{types_of, pointers_of, IsOfType, Holds, IsWhole, IsMissing}
+use Rattle.anchor_elements.specs.Reading.{types_of, pointers_of, IsMissing}
+use Rattle.anchor_elements.specs.inside.Reading.{IsOfType, Holds, IsWhole}
 use Rattle.anchor_elements.specs.Wrong.{IsWrong, leads_to_no_interval, leads_to_no_element, leads_to_no_segment}
 use Rattle.anchor_elements.proofs.SpellingLemmas.{pointers_more}
 

@@ -3,3 +3,4 @@ pub mod Wrong
 pub mod Puts
 pub mod Spelling
 pub mod Reading
+pub mod inside

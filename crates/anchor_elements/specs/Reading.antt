@@ -1,11 +1,10 @@
 -- An element that is read.
 use Rattle.std.specs.Prelude.{◌≡◌, ◌⊎◌, ℕ, ◌≤◌, ◌<◌, List, map, length}
-use Rattle.ci_space.specs.Interval.{IsInterval, HasUsed, IsZero}
+use Rattle.ci_space.specs.Interval.{IsInterval}
 use Rattle.ci_overflow.specs.Lists.{bytes_at}
-use Rattle.fp_model.specs.declared.definitions.SegDef.{SegDef}
 use Rattle.anchor_elements.specs.declared.element.First.{First}
 use Rattle.anchor_elements.specs.declared.element.Said.{Said}
-use Rattle.anchor_elements.specs.Elements.{Pointer, Segment, content_length, segment_in}
+use Rattle.anchor_elements.specs.Elements.{Pointer, Segment}
 
 -- the child types that pointers are for, and the pointers
 abbrev pub types_of : List First → List ℕ
@@ -23,23 +22,6 @@ segment_of said = record {
   bytes =
       said.bytes;
 }
-
--- a content is as long as its type needs, and zeros stand behind the segment
-pub record IsWhole (types : List SegDef) (type : ℕ) (content : List ℕ) : Type 0 where
-  pub fits : content_length types type ≤ length content
-  pub zeros : IsZero content (content_length types type) (length content)
-
--- a used element of this type stands at `at` of an interval
-pub record IsOfType (bytes : List ℕ) (type at : ℕ) : Type 0 where
-  pub content : List ℕ
-  pub used : HasUsed bytes at type content
-
--- it says this
-pub record Holds (types : List SegDef) (bytes : List ℕ) (type at : ℕ) (segment : Segment) : Type 0 where
-  pub content : List ℕ
-  pub used : HasUsed bytes at type content
-  pub is_whole : IsWhole types type content
-  pub says : segment ≡ segment_in types type content
 
 -- the interval that is damaged where none is got: this one, or where there is none the one that leads to it
 abbrev pub IsMissing : List (List ℕ) → ℕ → ℕ → ℕ → Type 0

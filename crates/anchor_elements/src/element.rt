@@ -15,7 +15,8 @@ ghost use Rattle.fp_model.specs.Order.{child_types, is_child_of, numbers_from};
 ghost use Rattle.fp_model.specs.Shape.{has_length};
 ghost use Rattle.fp_model.specs.WellFormed.{has_sequential};
 ghost use Rattle.anchor_elements.specs.Elements.{Pointer, Segment, HasSegment, pointer_at, pointers_from, has_serial, serial_length, prefix_length, segment_length, content_length, segment_in, AreTypes};
-ghost use Rattle.anchor_elements.specs.Reading.{types_of, pointers_of, segment_of, IsWhole, IsOfType, Holds, IsMissing};
+ghost use Rattle.anchor_elements.specs.Reading.{types_of, pointers_of, segment_of, IsMissing};
+ghost use Rattle.anchor_elements.specs.inside.Reading.{IsWhole, IsOfType, Holds};
 ghost use Rattle.anchor_elements.specs.Wrong.{IsWrong};
 
 use crate::fault::AnchorFault;

@@ -25,7 +25,8 @@ use Rattle.fp_model.specs.State.{Area, areas_from, areas_of, ascend, first_area_
 use Rattle.fp_model.specs.WellFormed.{AreDefs, HasCapacity, IsAreaDef, IsDedbDef, has_sequential}
 use Rattle.anchor_elements.specs.Elements.{segment_length}
 use Rattle.root_anchor.specs.Chains.{newest}
-use Rattle.root_anchor.specs.Stored.{are_storable, form_step, is_in_form, is_newest, is_storable, row_has_form, rows_have_form}
+use Rattle.root_anchor.specs.Stored.{are_storable, form_step, is_in_form, is_newest, is_storable, rows_have_form}
+use Rattle.root_anchor.specs.inside.Stored.{row_has_form}
 use Rattle.area_states.specs.declared.place.Place.{Place}
 use Rattle.area_states.specs.Places.{has_anchor as lies_in, place_at, place_of, places_of, sequential_length}
 use Rattle.area_states.specs.Changes.{IsInsertable, IsStorable, kept_root}

@@ -16,7 +16,8 @@ use Rattle.area_states.specs.Places.{part_of}
 use Rattle.area_states.specs.States.{AreaState, HasAnchor, HasState, IsReadAs, newest_serial}
 use Rattle.area_states.proofs.Readings.{newest_again}
 use Rattle.area_states.proofs.StateLemmas.{not_at_fault}
-use Rattle.area_reading.specs.Damage.{AreEndsOf, HasRootPastEnd, IsUnreadable, in_chain, in_part, in_root}
+use Rattle.area_reading.specs.Damage.{HasRootPastEnd, IsUnreadable, in_chain, in_part, in_root}
+use Rattle.area_reading.specs.inside.Damage.{AreEndsOf}
 
 -- ---- lists, one after another
 

@@ -1,18 +1,12 @@
 -- Why an anchor of an area can't be read, and which interval is at fault.
 use Rattle.std.specs.Prelude.{◌≡◌, ℕ, ◌≤◌, List}
-use Rattle.fp_model.specs.declared.database.AreaEnds.{AreaEnds}
 use Rattle.root_anchor.specs.declared.places.RootPlace.{RootPlace}
 use Rattle.root_anchor.specs.Damage.{ChainFails}
 use Rattle.root_anchor.specs.Roots.{HasRootAt}
-use Rattle.seq_dependents.specs.Control.{begin_of, end_of}
+use Rattle.seq_dependents.specs.Control.{end_of}
 use Rattle.seq_dependents.specs.Faults.{IsAtFault}
 use Rattle.area_states.specs.declared.place.Place.{Place}
 use Rattle.area_states.specs.Places.{part_of}
-
--- these are the two ends in control
-pub record AreEndsOf (area : List (List ℕ)) (ends : AreaEnds) : Type 0 where
-  pub begin : ends.begin ≡ begin_of area
-  pub end : ends.end ≡ end_of area
 
 -- a root of the anchor stands in this interval, and says a newest serial that no one got yet: one at or past the end
 pub record HasRootPastEnd (place : Place) (area : List (List ℕ)) (anchor ci : ℕ) : Type 0 where

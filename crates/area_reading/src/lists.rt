@@ -12,7 +12,8 @@ ghost use Rattle.seq_dependents.specs.Down.{IsDown};
 ghost use Rattle.seq_dependents.specs.Faults.{IsAtFault};
 ghost use Rattle.area_states.specs.Places.{IsPlace, part_of};
 ghost use Rattle.area_states.specs.States.{IsReadAs, newest_serial};
-ghost use Rattle.area_reading.specs.Damage.{AreEndsOf, HasRootPastEnd, IsUnreadable};
+ghost use Rattle.area_reading.specs.Damage.{HasRootPastEnd, IsUnreadable};
+ghost use Rattle.area_reading.specs.inside.Damage.{AreEndsOf};
 
 use crate::types::sequential_length;
 use area_states::Place;

@@ -5,7 +5,8 @@ use Rattle.std.proofs.lemmas.List.{ext_get_or, length-take, length-append, lengt
 use Rattle.std.proofs.lemmas.Bool.{cases_lt}
 use Rattle.std.proofs.lemmas.Bool.Decides.{nat_tests}
 use Rattle.fp_site.specs.Disk.{Torn, Broken, covers, read_range, written}
-use Rattle.fp_site.specs.Written.{zeros, get_or-append_zeros, written_some, written_other}
+use Rattle.fp_site.specs.Written.{zeros, written_other}
+use Rattle.fp_site.specs.inside.Written.{get_or-append_zeros, written_some}
 use Rattle.area_redo.specs.Redo.{interval_in}
 
 -- what is read is as long as was asked

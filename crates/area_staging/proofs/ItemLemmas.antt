@@ -4,7 +4,8 @@ use Rattle.std.specs.Prelude.{◌==◌, ◌&&◌}
 use Rattle.std.proofs.lemmas.Bool.{cases_Bool}
 use Rattle.std.proofs.lemmas.List.{length-drop, length-take-le, take-append-drop}
 use Rattle.fp_site.specs.Disk.{written}
-use Rattle.fp_site.specs.Written.{written_some, zeros}
+use Rattle.fp_site.specs.Written.{zeros}
+use Rattle.fp_site.specs.inside.Written.{written_some}
 use Rattle.fp_model.specs.ItemTargets.{names_interval}
 use Rattle.fp_model.specs.declared.log.Item.{Item}
 use Rattle.area_redo.specs.Redo.{names, put}

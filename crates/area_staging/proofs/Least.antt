@@ -6,7 +6,8 @@ use Rattle.std.proofs.lemmas.Bool.Decides.{nat_tests}
 use Rattle.std.proofs.lemmas.List.{append-nil, get_or-drop, get_or-take, length-drop, length-take-le}
 use Rattle.fp_model.specs.declared.log.Item.{Item}
 use Rattle.area_staging.specs.declared.extent.Extent.{Extent}
-use Rattle.area_staging.specs.Changing.{IsItemFor, IsLeastOf}
+use Rattle.area_staging.specs.Changing.{IsLeastOf}
+use Rattle.area_staging.specs.inside.Changing.{IsItemFor}
 use Rattle.area_staging.specs.Items.{DiffersAtEnds, DiffersIn, IsItemOf, items_in}
 use Rattle.area_staging.proofs.Orders.{all_join}
 

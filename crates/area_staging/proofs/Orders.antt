@@ -6,7 +6,8 @@ use Rattle.std.proofs.lemmas.Bool.Decides.{nat_tests}
 use Rattle.fp_model.specs.ItemTargets.{ItemTarget, OfInterval, OfSegment, is_ascending, item_target, precedes, target_precedes}
 use Rattle.fp_model.specs.declared.log.Item.{Item}
 use Rattle.fp_model.specs.declared.log.Item.TheVariants.{Segment, Image, Range}
-use Rattle.area_staging.specs.Changing.{AllBefore, IsFitFor}
+use Rattle.area_staging.specs.Changing.{IsFitFor}
+use Rattle.area_staging.specs.inside.Changing.{AllBefore}
 
 -- ---- one of a list
 

@@ -18,7 +18,8 @@ use Rattle.area_redo.specs.Redo.{names, put, redone_at}
 use Rattle.area_redo.proofs.Changes.{no_change, one_change}
 use Rattle.area_redo.proofs.Items.{begins_named, begins_none, names_more, redone_none}
 use Rattle.area_staging.specs.declared.extent.Extent.{Extent}
-use Rattle.area_staging.specs.Changing.{AllBefore, IsFitFor, IsFitItem, IsItemFor, IsOneStaged, MakeChanges, StagesItems}
+use Rattle.area_staging.specs.Changing.{IsFitFor, MakeChanges, StagesItems}
+use Rattle.area_staging.specs.inside.Changing.{AllBefore, IsFitItem, IsItemFor, IsOneStaged}
 use Rattle.area_staging.specs.Flags.{AreFlagged, IsFlagged}
 use Rattle.area_staging.specs.Items.{HasFlag, IsChange, IsItemOf, items_in}
 use Rattle.area_staging.proofs.Flags.{all_flagged}

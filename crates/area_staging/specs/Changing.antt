@@ -1,16 +1,14 @@
 -- The changed intervals of an area, staged in the pool, and their items.
-use Rattle.std.specs.Prelude.{◌≡◌, ◌≢◌, ⊤, ℕ, ◌+◌, ◌*◌, ◌<◌, ◌≤◌, ◌^◌, ◌==◌, ◌&&◌, if◌then◌else◌, Bool, true, false, nat_lt, List, length, IsSome, Option, Some, None}
-use Rattle.std.specs.List.{AllByRecursion}
+use Rattle.std.specs.Prelude.{◌≡◌, ◌≢◌, ⊤, ℕ, ◌+◌, ◌*◌, ◌<◌, ◌≤◌, ◌^◌, Bool, true, false, List, length, IsSome, Some, None}
 use Rattle.fp_site.specs.Disk.{Disk, Stays}
 use Rattle.fp_model.specs.Items.{begins_with_image}
-use Rattle.fp_model.specs.ItemTargets.{OfInterval, item_target, target_precedes}
 use Rattle.fp_model.specs.declared.log.Item.{Item}
 use Rattle.fp_model.specs.declared.log.Item.TheVariants.{Segment, Image, Range}
 use Rattle.held_intervals.specs.Holding.{Changes}
 use Rattle.ci_pool.specs.Held.{Held, HasSize, IsClean, newest_in, pending_at, staged_at}
 use Rattle.area_redo.specs.Redo.{AreaBytes, ComesWhole, names, redone_at}
 use Rattle.area_staging.specs.declared.extent.Extent.{Extent}
-use Rattle.area_staging.specs.Items.{DiffersAtEnds, IsItemOf}
+use Rattle.area_staging.specs.Items.{DiffersAtEnds}
 use Rattle.area_staging.specs.Staging.{IsToldPool}
 
 -- ---- what stays
@@ -43,13 +41,6 @@ AreWithin area changed =
 
 -- ---- one interval
 
--- The item of a changed interval of an area that had so many: an image where it is new or has no item since the mark, else
--- a range. There is none where an interval that stood keeps its bytes.
-abbrev pub IsItemFor : Bool → Extent → ℕ → List ℕ → List ℕ → Option Item → Type 0
-IsItemFor imaged area ci old new None = (ci < area.count) × (new ≡ old)
-IsItemFor imaged area ci old new (Some item) =
-    IsItemOf (imaged && nat_lt ci area.count) area.set ci old new item × (ci < area.count → new ≢ old)
-
 -- The least item of an interval of an area, of which `count` stood before with these bytes: one that stood has an image
 -- only where it has no item since the mark, and a range begins and ends with a byte that differs.
 abbrev pub IsLeastOf : ℕ → (ℕ → Bool) → (ℕ → List ℕ) → Item → Type 0
@@ -62,22 +53,6 @@ abbrev pub IsFitFor : ℕ → ℕ → Item → Type 0
 IsFitFor set size (Segment msdb key bytes) = ⊥
 IsFitFor set size (Image s ci bytes) = (s ≡ set) × (length bytes ≡ size) × ((ci + 1) * size ≤ 2 ^ 62)
 IsFitFor set size (Range s ci at bytes) = (s ≡ set) × (at + length bytes ≤ size) × ((ci + 1) * size ≤ 2 ^ 62)
-
--- such an item of one interval, if there is any
-abbrev pub IsFitItem : Extent → ℕ → Option Item → Type 0
-IsFitItem area ci None = ⊤
-IsFitItem area ci (Some item) = IsFitFor area.set area.size item × (item_target item ≡ OfInterval area.set ci)
-
--- where a changed interval has an item it is staged with these bytes; all else that is staged stays
-abbrev pub IsOneStaged : ℕ → ℕ → List ℕ → Held → Held → Option Item → Type 0
-IsOneStaged set ci bytes before after None = (s k : ℕ) → staged_at after s k ≡ staged_at before s k
-IsOneStaged set ci bytes before after (Some item) =
-    (s k : ℕ) → staged_at after s k ≡ (if s == set && k == ci then Some bytes else staged_at before s k)
-
--- each item stands before those of an interval
-abbrev pub AllBefore : ℕ → ℕ → List Item → Type 0
-AllBefore set ci items =
-    AllByRecursion (λ item. target_precedes (item_target item) (OfInterval set ci) ≡ true) items
 
 -- ---- the intervals of an area
 

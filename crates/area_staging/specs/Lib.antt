@@ -3,3 +3,4 @@ pub mod Staging
 pub mod Items
 pub mod Flags
 pub mod Changing
+pub mod inside

@@ -18,10 +18,6 @@ staged_or_newest staged pool contents set size ci = held_or (staged ci) (newest_
 abbrev pub staged_area : ℕ → Changes → Held → (ℕ → List ℕ) → ℕ → ℕ → List (List ℕ)
 staged_area count staged pool contents set size = listed count (staged_or_newest staged pool contents set size)
 
--- so many intervals of an area as the newest entry left them
-abbrev pub pool_area : ℕ → Held → (ℕ → List ℕ) → ℕ → ℕ → List (List ℕ)
-pool_area count pool contents set size = listed count (λ ci. newest_in pool contents set ci size)
-
 -- what the pool has of the area is of its size, and of its data set where it is clean
 pub record IsToldPool (set size : ℕ) (contents : ℕ → List ℕ) (pool : Held) : Type 0 where
   pub clean : IsClean contents pool

@@ -11,7 +11,7 @@ use Rattle.fp_model.specs.State.{ascend, is_below}
 use Rattle.fp_model.specs.Texts.{same_text}
 use Rattle.key_order.proofs.Ascending.{all_above, is_same, none_is_not_some, not_below_itself, not_both, same_is, some_is, tail_ascends}
 use Rattle.root_anchor.specs.Chains.{newest}
-use Rattle.area_states.specs.Keys.{HasSeqsAt, IsOwnOf, IsRootOf, IsSerialFor, NoneHas}
+use Rattle.area_states.specs.inside.Keys.{HasSeqsAt, IsOwnOf, IsRootOf, IsSerialFor, NoneHas}
 use Rattle.area_states.specs.States.{newest_serial}
 use Rattle.area_states.proofs.Readings.{newest_again}
 

@@ -23,7 +23,7 @@ use Rattle.area_states.specs.declared.place.Place.{Place}
 use Rattle.area_states.specs.Places.{LiesIn, part_of}
 use Rattle.area_states.specs.States.{AreaState, IsReadAs, newest_serial}
 use Rattle.area_states.specs.Changes.{ChangesOne, HasListOf, OneChanges}
-use Rattle.area_states.specs.Keys.{HasSeqsAt, IsKeptAs, IsOwnOf, IsSerialFor}
+use Rattle.area_states.specs.inside.Keys.{HasSeqsAt, IsKeptAs, IsOwnOf, IsSerialFor}
 use Rattle.ci_overflow.specs.Lists.{bytes_at}
 use Rattle.area_states.proofs.Readings.{newest_again, one_list, own_list, same_root, serial_reads}
 

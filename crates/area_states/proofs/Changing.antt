@@ -8,7 +8,7 @@ use Rattle.fp_model.specs.declared.calls.SeqInsert.{SeqInsert}
 use Rattle.std.specs.List.{AllZip, AllByRecursion}
 use Rattle.fp_model.specs.declared.database.Root.{Root}
 use Rattle.seq_dependents.specs.Control.{begin_of}
-use Rattle.area_states.specs.Keys.{IsKeptAs}
+use Rattle.area_states.specs.inside.Keys.{IsKeptAs}
 use Rattle.root_anchor.specs.Chains.{anchor_count}
 use Rattle.root_anchor.specs.Formed.{IsFormed, HasRoots}
 use Rattle.root_anchor.specs.Stored.{OthersKeep, KeepsSequential}

@@ -11,7 +11,7 @@ use Rattle.fp_model.specs.Texts.{same_text}
 use Rattle.key_order.specs.Places.{IsPlace}
 use Rattle.key_order.proofs.Ascending.{found_at, no_same}
 use Rattle.area_states.specs.declared.place.Place.{Place}
-use Rattle.area_states.specs.Keys.{NoneHas}
+use Rattle.area_states.specs.inside.Keys.{NoneHas}
 use Rattle.area_states.specs.States.{IsReadAs}
 
 pub got_within : (xs : List Root) (k : ℕ) (x : Root) → slice_get xs k ≡ Some x → k < length xs

@@ -30,7 +30,7 @@ use Rattle.seq_dependents.specs.Puts.{Appends, IsTooMany}
 use Rattle.seq_dependents.specs.Slots.{IsHeld}
 use Rattle.area_states.specs.declared.finding.Found.{Found}
 use Rattle.area_states.specs.declared.place.Place.{Place}
-use Rattle.area_states.specs.Keys.{HasNewest, IsFound, NoneHas}
+use Rattle.area_states.specs.inside.Keys.{HasNewest, IsFound, NoneHas}
 use Rattle.area_states.specs.Places.{part_of, sequential_length, IsPlace, LiesIn}
 use Rattle.area_states.specs.States.{AreaState, HasAnchor, HasState, IsReadAs, newest_serial}
 use Rattle.area_states.specs.Changes.{AreOrdered, numbered_at, with_roots_at}

@@ -15,7 +15,7 @@ use Rattle.area_states.specs.declared.place.Place.{Place}
 use Rattle.area_states.specs.Places.{part_of}
 use Rattle.area_states.specs.States.{IsReadAs, newest_serial}
 use Rattle.area_states.specs.Changes.{HasListOf}
-use Rattle.area_states.specs.Keys.{IsKeptAs, IsSerialFor}
+use Rattle.area_states.specs.inside.Keys.{IsKeptAs, IsSerialFor}
 use Rattle.root_anchor.proofs.Members.{in_cases, none_in}
 use Rattle.area_states.proofs.Lists.{GoesOnHolding, read_on}
 

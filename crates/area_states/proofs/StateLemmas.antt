@@ -21,7 +21,7 @@ use Rattle.area_states.specs.declared.place.Place.{Place}
 use Rattle.area_states.specs.Places.{part_of, IsPlace}
 use Rattle.area_states.specs.States.{AreaState, HasAnchor, HasState, IsReadAs, IsWholePart, SameState}
 use Rattle.area_states.specs.Changes.{HasListOf, with_roots_at}
-use Rattle.area_states.specs.Keys.{IsKeptAs}
+use Rattle.area_states.specs.inside.Keys.{IsKeptAs}
 use Rattle.area_states.proofs.Frames.{kind_within}
 use Rattle.area_states.proofs.Loops.{is_it, is_other}
 use Rattle.area_states.proofs.Lists.{GoesOnHolding, all_read_on}

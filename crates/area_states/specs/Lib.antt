@@ -1,5 +1,5 @@
 pub mod Places
-pub mod Keys
 pub mod States
 pub mod Changes
 pub mod Databases
+pub mod inside

@@ -7,7 +7,7 @@ ghost use Rattle.fp_model.specs.Order.{root_key};
 ghost use Rattle.fp_model.specs.State.{ascend};
 ghost use Rattle.root_anchor.specs.Chains.{anchor_count};
 ghost use Rattle.root_anchor.specs.Formed.{HasChain};
-ghost use Rattle.area_states.specs.Keys.{HasNewest, IsFound, NoneHas};
+ghost use Rattle.area_states.specs.inside.Keys.{HasNewest, IsFound, NoneHas};
 ghost use Rattle.area_states.specs.Places.{IsPlace};
 
 use crate::Place;

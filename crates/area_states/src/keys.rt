@@ -5,7 +5,7 @@ ghost use Rattle.key_order.specs.Places.{IsPlace};
 ghost use Rattle.fp_model.specs.Order.{root_key};
 ghost use Rattle.fp_model.specs.State.{ascend, is_below};
 ghost use Rattle.fp_model.specs.Texts.{same_text};
-ghost use Rattle.area_states.specs.Keys.{IsRootOf, NoneHas};
+ghost use Rattle.area_states.specs.inside.Keys.{IsRootOf, NoneHas};
 
 use fp_model::{Root, SegDef, key_of};
 

@@ -5,7 +5,7 @@ ghost use Rattle.std.specs.List.{AllZip};
 ghost use Rattle.root_anchor.specs.Chains.{newest};
 ghost use Rattle.root_anchor.specs.Stored.{are_storable, is_newest, is_storable};
 ghost use Rattle.area_states.specs.Changes.{kept_root};
-ghost use Rattle.area_states.specs.Keys.{HasSeqsAt, IsKeptAs, IsOwnOf, IsSerialFor};
+ghost use Rattle.area_states.specs.inside.Keys.{HasSeqsAt, IsKeptAs, IsOwnOf, IsSerialFor};
 ghost use Rattle.fp_model.specs.Order.{root_key};
 ghost use Rattle.fp_model.specs.State.{ascend};
 ghost use Rattle.fp_model.specs.declared.database.Root.{Root as RootOf};

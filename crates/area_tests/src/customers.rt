@@ -2,7 +2,8 @@
 ghost use Rattle.std.specs.Prelude.{◌≡◌, List as ListOf, true, IfOk};
 ghost use Rattle.fp_model.specs.declared.definitions.SegDef.{SegDef as SegDefOf};
 ghost use Rattle.area_tests.specs.Types.{AreCustomerTypes};
-ghost use Rattle.root_anchor.specs.Stored.{is_newest, is_storable, are_storable, row_has_form};
+ghost use Rattle.root_anchor.specs.Stored.{is_newest, is_storable, are_storable};
+ghost use Rattle.root_anchor.specs.inside.Stored.{row_has_form};
 
 use fp_model::{Bytes, List, Node, Root, SeqItem};
 use std::alloc::{AllocError, Global};

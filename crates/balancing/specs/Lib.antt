@@ -1,2 +1,3 @@
 pub mod Backlog
 pub mod Numbered
+pub mod inside

@@ -2,7 +2,8 @@
 //!
 //! The terminals stand in the order of their names, each in a place of its own in main storage: a new one moves the
 //! handles of those behind it, a word each. Those that `reserve` made lie ready, so that `set` takes no memory.
-ghost use Rattle.balancing.specs.Numbered.{IsPlaced, IsWithin, as_last, lasts_in};
+ghost use Rattle.balancing.specs.Numbered.{as_last, lasts_in};
+ghost use Rattle.balancing.specs.inside.Numbered.{IsPlaced, IsWithin};
 ghost use Rattle.key_order.specs.Places.{IsPlace};
 ghost use Rattle.fp_model.specs.Lasts.{last_of, with_last};
 ghost use Rattle.fp_model.specs.State.{ascend, is_below};

@@ -12,7 +12,7 @@ use Rattle.fp_model.specs.Texts.{value}
 use Rattle.fp_model.specs.declared.definitions.FieldKind.{FieldKind}
 use Rattle.fp_model.specs.declared.definitions.FieldKind.TheVariants.{C, X, H, F, P}
 use Rattle.byte_rows.specs.Preferred.{signed_as, preferred}
-use Rattle.packed_dec.specs.Halves.{halves}
+use Rattle.packed_dec.specs.inside.Halves.{halves}
 use Rattle.packed_dec.proofs.Digits.{length_snoc, value_snoc, value_below, halves_snoc, pair_snoc, digits_at, packed_digits_snoc, length-packed_digits}
 use Rattle.packed_dec.proofs.ReadsBack.{under_test}
 

@@ -1,7 +1,7 @@
 -- Ascending keys, one step at a time.
 use Rattle.std.proofs.Common.{◌≡◌, ℕ, List, [], ◌∷◌, ◌++◌, ◌&&◌, map, ap, refl}
 use Rattle.fp_model.specs.State.{ascend}
-use Rattle.checkpoint_format.specs.Order.{is_before}
+use Rattle.checkpoint_format.specs.inside.Order.{is_before}
 
 pub ascending_step : (key : List ℕ) (more : List (List ℕ)) → ascend (key ∷ more) ≡ (is_before key more && ascend more)
 ascending_step key [] = refl

@@ -1,4 +1,3 @@
 pub mod Given
-pub mod Order
 pub mod Reading
-pub mod Terminals
+pub mod inside

@@ -1,6 +1,6 @@
 //! Reading a checkpoint.
 ghost use Rattle.checkpoint_format.specs.Given.{loaded_as};
-ghost use Rattle.checkpoint_format.specs.Order.{is_before};
+ghost use Rattle.checkpoint_format.specs.inside.Order.{is_before};
 ghost use Rattle.checkpoint_format.specs.Reading.{
   all_msdbs_at,
   head_at,

@@ -1,6 +1,6 @@
 //! The last numbers of terminals, both ways.
-ghost use Rattle.checkpoint_format.specs.Terminals.{as_last};
-ghost use Rattle.checkpoint_format.specs.Order.{is_before};
+ghost use Rattle.checkpoint_format.specs.inside.Terminals.{as_last};
+ghost use Rattle.checkpoint_format.specs.inside.Order.{is_before};
 ghost use Rattle.checkpoint_format.specs.Reading.{is_name_of, is_stored_name, last_at, lasts_at, numbered_at};
 ghost use Rattle.fp_model.specs.CheckpointText.{AreLasts, last_text, lasts_text};
 ghost use Rattle.fp_model.specs.LogText.{IsBytes};

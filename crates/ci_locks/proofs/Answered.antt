@@ -9,8 +9,10 @@ use Rattle.fp_model.specs.declared.calls.Mode.TheVariants.{Share, Exclusive}
 use Rattle.fp_model.specs.declared.calls.Resource.{Resource}
 use Rattle.fp_model.specs.State.{numbers_up}
 use Rattle.fp_model.specs.Waiting.{Lock, held_as, conflicts, is_blocked, same_resource, waits, WaitsAlong, without_region, with_request}
-use Rattle.ci_locks.specs.Graph.{Along, is_in, next, next_of}
-use Rattle.ci_locks.specs.Standing.{Standing, Shows, Gains, IsGrant, asking, blocking, gained, gained_over, in_way, raised}
+use Rattle.ci_locks.specs.Graph.{is_in}
+use Rattle.ci_locks.specs.inside.Graph.{Along, next, next_of}
+use Rattle.ci_locks.specs.Standing.{Standing, Shows, IsGrant, gained, gained_over}
+use Rattle.ci_locks.specs.inside.Standing.{Gains, asking, blocking, in_way, raised}
 use Rattle.ci_locks.specs.declared.locks.Grant.TheVariants as grant
 use Rattle.ci_locks.proofs.Shown.{In, to_in, from_in, any_in, in_any, in_filter, filter_in, both, and_true, number_is, is_number, not_true, false_not, resource_is, is_resource, lock_counts, way_counts, blockers_are}
 

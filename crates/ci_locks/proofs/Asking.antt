@@ -5,7 +5,8 @@ use Rattle.std.specs.Prelude.{if◌then◌else◌}
 use Rattle.fp_model.specs.declared.calls.Mode.{Mode}
 use Rattle.fp_model.specs.declared.calls.Resource.{Resource}
 use Rattle.fp_model.specs.Waiting.{Lock}
-use Rattle.ci_locks.specs.Standing.{Standing, Asks, asking}
+use Rattle.ci_locks.specs.Standing.{Standing}
+use Rattle.ci_locks.specs.inside.Standing.{Asks, asking}
 
 pub asking_is : (s t : Standing) (region : ℕ) (request : Option Lock) → Asks s t region request
     → t ≡ asking s region request

@@ -13,7 +13,8 @@ use Rattle.fp_model.specs.declared.calls.Resource.TheVariants.{Segment, Anchor}
 use Rattle.fp_model.specs.Waiting.{Lock}
 use Rattle.ci_locks.specs.Holdings as code
 use Rattle.ci_locks.specs.Holdings.{anchor_cmp, at_key, held_by, key_holders}
-use Rattle.ci_locks.specs.Regions.{IsSound, region_at, region_request, row_of, rows_from, rows_of, standing_of}
+use Rattle.ci_locks.specs.Regions.{IsSound, region_at, row_of, rows_from, rows_of}
+use Rattle.ci_locks.specs.inside.Regions.{region_request, standing_of}
 use Rattle.ci_locks.specs.Standing.{Standing, Shows}
 use Rattle.ci_locks.specs.Table.{Row, joined, key_mode, mode_of, request_of, row_at, row_mode, standing}
 use Rattle.ci_locks.specs.declared.holding.Holdings.{Holdings}

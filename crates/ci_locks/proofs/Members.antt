@@ -3,7 +3,8 @@ use Rattle.std.proofs.Common.{refl, arith, ◌≡◌, ℕ, zero, suc, ◌+◌, �
 use Rattle.std.specs.Prelude.{slice_set}
 use Rattle.fp_model.specs.State.{numbers_up}
 use Rattle.ci_locks.specs.Graph.{is_in}
-use Rattle.ci_locks.specs.Sets.{has, members}
+use Rattle.ci_locks.specs.Sets.{has}
+use Rattle.ci_locks.specs.inside.Sets.{members}
 
 number_is : (a b : ℕ) → (a == b) ≡ true → a ≡ b
 number_is a b e = grind arith

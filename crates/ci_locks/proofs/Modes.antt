@@ -5,7 +5,7 @@ use Rattle.fp_model.specs.declared.calls.Mode.{Mode}
 use Rattle.fp_model.specs.declared.calls.Resource.{Resource}
 use Rattle.fp_model.specs.Waiting.{same_resource}
 use Rattle.ci_locks.specs.Holdings.{AreHeld, held_by, holders_in, mode_of}
-use Rattle.ci_locks.specs.Standing.{raised}
+use Rattle.ci_locks.specs.inside.Standing.{raised}
 use Rattle.ci_locks.specs.declared.holding.Holders.{Holders}
 use Rattle.ci_locks.specs.declared.holding.Holdings.{Holdings}
 use Rattle.ci_locks.proofs.Shown.{is_number, resource_is}

@@ -12,7 +12,8 @@ use Rattle.fp_model.specs.declared.calls.Resource.TheVariants.{Segment, Anchor}
 use Rattle.fp_model.specs.State.{numbers_up}
 use Rattle.fp_model.specs.Texts.{same_text}
 use Rattle.fp_model.specs.Waiting.{Lock, held_as, conflicts, is_exclusive, same_resource, blockers, without_region}
-use Rattle.ci_locks.specs.Standing.{Standing, Shows, Frees, blocking, in_way, is_in_conflict}
+use Rattle.ci_locks.specs.Standing.{Standing, Shows, is_in_conflict}
+use Rattle.ci_locks.specs.inside.Standing.{Frees, blocking, in_way}
 
 -- ---- elements
 

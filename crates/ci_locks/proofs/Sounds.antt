@@ -8,9 +8,11 @@ use Rattle.fp_model.specs.declared.calls.Mode.{Mode}
 use Rattle.fp_model.specs.declared.calls.Resource.{Resource}
 use Rattle.fp_model.specs.Waiting.{Lock, same_resource}
 use Rattle.ci_locks.specs.Holdings.{AreHeld, held_by, holders_in, mode_of}
-use Rattle.ci_locks.specs.Regions.{AreTold, Hears, IsRight, IsSound, ahead_of, asked_mode, heard, is_ahead, region_at, region_request, standing_of}
+use Rattle.ci_locks.specs.Regions.{IsRight, IsSound, is_ahead, region_at}
+use Rattle.ci_locks.specs.inside.Regions.{AreTold, Hears, ahead_of, asked_mode, heard, region_request, standing_of}
 use Rattle.ci_locks.specs.Sets.{has}
-use Rattle.ci_locks.specs.Standing.{Asks, Frees, Gains, is_in_conflict, raised}
+use Rattle.ci_locks.specs.Standing.{is_in_conflict}
+use Rattle.ci_locks.specs.inside.Standing.{Asks, Frees, Gains, raised}
 use Rattle.ci_locks.specs.Table.{lock_of}
 use Rattle.ci_locks.specs.declared.holding.Holders.{Holders}
 use Rattle.ci_locks.specs.declared.holding.Holdings.{Holdings}

@@ -7,7 +7,8 @@ use Rattle.std.proofs.lemmas.Map.Keys.{IsDistinct-push}
 use Rattle.std.proofs.lemmas.Map.Steps.{length-le_from_distinct_below}
 use Rattle.fp_model.specs.State.{numbers_up}
 use Rattle.ci_locks.specs.Cycles.{IsNoLater}
-use Rattle.ci_locks.specs.Graph.{is_in, Along}
+use Rattle.ci_locks.specs.Graph.{is_in}
+use Rattle.ci_locks.specs.inside.Graph.{Along}
 use Rattle.ci_locks.proofs.Firsts.{GoesOn, apart_of, goes_on, no_later_front, no_later_next}
 
 number_is : (a b : ℕ) → (a == b) ≡ true → a ≡ b

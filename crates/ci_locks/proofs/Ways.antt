@@ -6,11 +6,15 @@ use Rattle.fp_model.specs.declared.calls.Mode.{Mode}
 use Rattle.fp_model.specs.declared.calls.Resource.{Resource}
 use Rattle.fp_model.specs.State.{numbers_up}
 use Rattle.fp_model.specs.Waiting.{Lock}
-use Rattle.ci_locks.specs.Graph.{Along, is_in, leads, next, next_of, set_at, set_of}
+use Rattle.ci_locks.specs.Graph.{is_in}
+use Rattle.ci_locks.specs.inside.Graph.{Along, leads, next, next_of, set_at, set_of}
 use Rattle.ci_locks.specs.Holdings.{held_by}
-use Rattle.ci_locks.specs.Regions.{IsRight, IsSound, is_ahead, region_at, region_request, standing_of}
-use Rattle.ci_locks.specs.Sets.{has, members}
-use Rattle.ci_locks.specs.Standing.{Standing, asking, blocking, in_way, is_in_conflict}
+use Rattle.ci_locks.specs.Regions.{IsRight, IsSound, is_ahead, region_at}
+use Rattle.ci_locks.specs.inside.Regions.{region_request, standing_of}
+use Rattle.ci_locks.specs.Sets.{has}
+use Rattle.ci_locks.specs.inside.Sets.{members}
+use Rattle.ci_locks.specs.Standing.{Standing, is_in_conflict}
+use Rattle.ci_locks.specs.inside.Standing.{asking, blocking, in_way}
 use Rattle.ci_locks.specs.Table.{lock_of}
 use Rattle.ci_locks.specs.declared.state.Region.{Region}
 use Rattle.ci_locks.specs.declared.state.Request.{Request}

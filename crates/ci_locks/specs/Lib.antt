@@ -5,3 +5,4 @@ pub mod Regions
 pub mod Sets
 pub mod Standing
 pub mod Table
+pub mod inside

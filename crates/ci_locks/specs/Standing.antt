@@ -1,11 +1,10 @@
 -- How each region holds each resource, and the request that it has standing.
-use Rattle.std.specs.Prelude.{◌≡◌, ⊤, ℕ, ◌≤◌, List, ◌∷◌, filter, Contains, ◌↔◌, Bool, true, false, not, ◌&&◌, ◌||◌, ◌==◌, Option, Some, None, if◌then◌else◌}
+use Rattle.std.specs.Prelude.{◌≡◌, ⊤, ℕ, ◌≤◌, List, ◌∷◌, Contains, ◌↔◌, Bool, true, false, ◌||◌, ◌==◌, Option, Some, None}
 use Rattle.std.specs.List.{IsDistinct}
 use Rattle.fp_model.specs.declared.calls.Mode.{Mode}
 use Rattle.fp_model.specs.declared.calls.Mode.TheVariants.{Share, Exclusive}
 use Rattle.fp_model.specs.declared.calls.Resource.{Resource}
-use Rattle.fp_model.specs.State.{numbers_up}
-use Rattle.fp_model.specs.Waiting.{Lock, held_as, is_blocked, is_exclusive, same_resource, blockers, waits, IsCycle, without_region, with_request}
+use Rattle.fp_model.specs.Waiting.{Lock, held_as, is_blocked, is_exclusive, blockers, waits, IsCycle, without_region, with_request}
 use Rattle.ci_locks.specs.declared.locks.Grant.{Grant}
 use Rattle.ci_locks.specs.declared.locks.Grant.TheVariants as grant
 
@@ -28,20 +27,6 @@ pub record Shows (s : Standing) (locks requests : List Lock) : Type 0 where
 abbrev pub is_in_conflict : Option Mode → Mode → Bool
 is_in_conflict None mode = false
 is_in_conflict (Some held) mode = is_exclusive held || is_exclusive mode
-
--- whether a region stands in the way of a request
-abbrev pub in_way : Standing → Lock → ℕ → Bool
-in_way s wanted region = not (region == wanted.region) && is_in_conflict (s.holds region wanted.resource) wanted.mode
-
--- the regions that stand in the way of a request, ascending
-abbrev pub blocking : Standing → Lock → List ℕ
-blocking s wanted = filter (in_way s wanted) (numbers_up s.regions 1)
-
--- the mode after a request for one: Exclusive stays
-abbrev pub raised : Option Mode → Mode → Mode
-raised None mode = mode
-raised (Some Share) mode = mode
-raised (Some Exclusive) mode = Exclusive
 
 -- the locks with one that is gained; one that is held Exclusive stays
 abbrev pub gained_over : Option Mode → Lock → List Lock → List Lock
@@ -83,27 +68,3 @@ abbrev pub requests_after : Grant → Lock → List Lock → List Lock
 requests_after grant.Held wanted requests = without_region wanted.region requests
 requests_after (grant.Wait holders) wanted requests = with_request wanted requests
 requests_after (grant.Cycle list) wanted requests = without_region wanted.region requests
-
--- with another request of a region, or none
-abbrev pub asking : Standing → ℕ → Option Lock → Standing
-asking s region request = record s { asks = λ other. if other == region then request else s.asks other }
-
-pub record Asks (s t : Standing) (region : ℕ) (request : Option Lock) : Type 0 where
-  pub regions : t.regions ≡ s.regions
-  pub holds : (other : ℕ) (resource : Resource) → t.holds other resource ≡ s.holds other resource
-  pub asks : (other : ℕ) → t.asks other ≡ (if other == region then request else s.asks other)
-
--- with a lock gained, and no request of its region
-pub record Gains (s t : Standing) (wanted : Lock) : Type 0 where
-  pub regions : t.regions ≡ s.regions
-  pub holds : (region : ℕ) (resource : Resource) → t.holds region resource ≡
-      (if region == wanted.region && same_resource wanted.resource resource then Some
-      (raised (s.holds wanted.region wanted.resource) wanted.mode) else s.holds region resource)
-  pub asks : (region : ℕ) → t.asks region ≡ (if region == wanted.region then None else s.asks region)
-
--- with nothing of a region
-pub record Frees (s t : Standing) (region : ℕ) : Type 0 where
-  pub regions : t.regions ≡ s.regions
-  pub holds : (other : ℕ) (resource : Resource) → t.holds other resource ≡
-      (if other == region then None else s.holds other resource)
-  pub asks : (other : ℕ) → t.asks other ≡ (if other == region then None else s.asks other)

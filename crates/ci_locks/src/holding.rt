@@ -6,7 +6,8 @@
 //! counts.
 ghost use Rattle.ci_locks.specs.Holdings.{AreHeld, anchor_cmp, at_key, held_by, holders_in, mode_of};
 ghost use Rattle.ci_locks.specs.Sets.{has};
-ghost use Rattle.ci_locks.specs.Standing.{is_in_conflict, raised};
+ghost use Rattle.ci_locks.specs.Standing.{is_in_conflict};
+ghost use Rattle.ci_locks.specs.inside.Standing.{raised};
 ghost use Rattle.fp_model.specs.Texts.{same_text};
 ghost use Rattle.fp_model.specs.Waiting.{same_resource};
 ghost use Rattle.fp_model.specs.declared.calls.Resource.TheVariants.{Anchor};

@@ -1,6 +1,6 @@
 //! Who waits for whom.
 ghost use Rattle.ci_locks.specs.Cycles.{IsNoLater};
-ghost use Rattle.ci_locks.specs.Graph.{Along, leads, set_at};
+ghost use Rattle.ci_locks.specs.inside.Graph.{Along, leads, set_at};
 ghost use Rattle.ci_locks.specs.Sets.{has};
 ghost use Rattle.std.specs.List.{IsDistinct};
 ghost use Rattle.std.specs.Prelude.{◌≡◌, ◌≤◌, ◌==◌, ◌∷◌, IfOk, IfSome, List as ListOf, MatchOption, length, true, ℕ};

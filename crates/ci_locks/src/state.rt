@@ -7,9 +7,11 @@
 //! resource, and a region that drops its locks leaves every set.
 ghost use Rattle.ci_locks.specs.Cycles.{IsFirstCycle};
 ghost use Rattle.ci_locks.specs.Holdings.{AreHeld, held_by};
-ghost use Rattle.ci_locks.specs.Regions.{AreTold, Hears, IsRegion, IsSound, is_ahead, region_at, standing_of};
+ghost use Rattle.ci_locks.specs.Regions.{IsSound, is_ahead, region_at};
+ghost use Rattle.ci_locks.specs.inside.Regions.{AreTold, Hears, IsRegion, standing_of};
 ghost use Rattle.ci_locks.specs.Sets.{has};
-ghost use Rattle.ci_locks.specs.Standing.{Asks, Frees, Gains, IfCycle, IsGrant, Shows, locks_after, requests_after};
+ghost use Rattle.ci_locks.specs.Standing.{IfCycle, IsGrant, Shows, locks_after, requests_after};
+ghost use Rattle.ci_locks.specs.inside.Standing.{Asks, Frees, Gains};
 ghost use Rattle.ci_locks.specs.Table.{lock_of};
 ghost use Rattle.fp_model.specs.Waiting.{Lock, same_resource, waits, with_request};
 ghost use Rattle.fp_model.specs.declared.calls.Mode.{Mode as ModeOf};

@@ -5,7 +5,8 @@ use Rattle.ci_space.specs.Interval.{kind_of}
 use Rattle.ci_overflow.specs.Places.{first_base, first_independent}
 use Rattle.ci_overflow.specs.Lists.{bytes_at, link_of, owner_of, IsOwned}
 use Rattle.ci_overflow.specs.Faults.{HoldsLink, in_base, in_list, IsAtFault, unlisted}
-use Rattle.ci_overflow.specs.Moves.{IsBefore, IsInList, LeadsTo, EndsWithout}
+use Rattle.ci_overflow.specs.Moves.{IsBefore, IsInList}
+use Rattle.ci_overflow.specs.inside.Moves.{LeadsTo, EndsWithout}
 use Rattle.ci_overflow.specs.declared.before.Numbered.{Numbered}
 use Rattle.ci_overflow.proofs.Circles.{IsWalked, walk-begins}
 use Rattle.ci_overflow.proofs.FaultLemmas.{IsBuilt}

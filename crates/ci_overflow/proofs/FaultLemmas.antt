@@ -9,7 +9,7 @@ use Rattle.ci_space.proofs.Tilings.{size-bounds}
 use Rattle.ci_overflow.specs.Places.{first_base, first_sequential, first_independent, kind_at}
 use Rattle.ci_overflow.specs.Lists.{bytes_at, link_of, owner_of, first_free, IsChain, Holds, IsOwned, IsListOf, HasList, IsInPlace, IsInOrder}
 use Rattle.ci_overflow.specs.Faults.{HasPlace, HoldsLink, in_base, in_control, in_list, IsShared, IsThere, IsNotThere, IsAtFault, misplaced, bad_link, circle, miscounted, in_use, no_unit, unlisted}
-use Rattle.ci_overflow.specs.Moves.{HasNoUnit}
+use Rattle.ci_overflow.specs.inside.Moves.{HasNoUnit}
 use Rattle.ci_overflow.specs.declared.reading.Place.{Place}
 use Rattle.ci_overflow.proofs.Joins.{kind-behind, link-zero, owner-zero}
 use Rattle.ci_overflow.proofs.Tries.{keeps-owner}

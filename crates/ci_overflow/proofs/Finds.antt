@@ -12,7 +12,8 @@ use Rattle.ci_space.proofs.Standing.{used-stands}
 use Rattle.ci_space.proofs.Empties.{tiled-tiles}
 use Rattle.ci_overflow.specs.Places.{first_base, first_independent, uow_of}
 use Rattle.ci_overflow.specs.Lists.{bytes_at, link_of, counted, first_free, IsChain, IsInOrder}
-use Rattle.ci_overflow.specs.Rooms.{places, IsNext, IsFirstPlace, KeepsUsed, OnlyOneChanges, IsPut, TakesAt, IsTaken, AreTried, ChangesLink, ChangesEnds, KeepsEnds, KeepsButLink, KeepsKinds, KeepsRoots, Joins, JoinsFree, JoinsNew, JoinsNext, TakesRoom, FindsRoom}
+use Rattle.ci_overflow.specs.Rooms.{places, IsNext, IsFirstPlace, KeepsUsed, OnlyOneChanges, IsPut, TakesAt, IsTaken, AreTried, ChangesLink, ChangesEnds, KeepsEnds, KeepsButLink, KeepsKinds, KeepsRoots, Joins, JoinsFree, JoinsNew, TakesRoom, FindsRoom}
+use Rattle.ci_overflow.specs.inside.Rooms.{JoinsNext}
 use Rattle.ci_overflow.proofs.Joins.{base-before, keeps-head, root-zero, counted-put, first_free-put, link-known, kind-known}
 use Rattle.ci_overflow.proofs.Tries.{option_some, option_none}
 

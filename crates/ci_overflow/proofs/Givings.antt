@@ -11,7 +11,7 @@ use Rattle.ci_overflow.specs.Places.{first_base, first_independent, kind_at}
 use Rattle.ci_overflow.specs.Lists.{bytes_at, link_of, counted, IsInOrder}
 use Rattle.ci_overflow.specs.Rooms.{KeepsUsed, IsInUse, IsPut, KeepsButLink}
 use Rattle.ci_overflow.specs.Freed.{BecomesEmpty, TakesBack, GivesBack}
-use Rattle.ci_overflow.specs.Moves.{Moves}
+use Rattle.ci_overflow.specs.inside.Moves.{Moves}
 use Rattle.ci_overflow.proofs.Joins.{keeps-head, root-zero, kind-behind, counted-put, first_free-put, link-known, owner-known, kind-known}
 use Rattle.ci_overflow.proofs.Finds.{same_or, used-same, ends-same, but-link-same, head_link, root-same, root_at, root-known, control-first, KindStays, kind-same, kind_where}
 use Rattle.ci_overflow.proofs.Tries.{keeps-link}

@@ -12,7 +12,8 @@ use Rattle.ci_space.proofs.Places.{big_from-keeps}
 use Rattle.ci_space.proofs.Standing.{stands-used, used-stands}
 use Rattle.ci_overflow.specs.Places.{first_base, first_independent, kind_at}
 use Rattle.ci_overflow.specs.Lists.{bytes_at, link_of, owner_of, counted, first_free}
-use Rattle.ci_overflow.specs.Rooms.{KeepsUsed, TakesIn, IsPut, ChangesLink, ChangesEnds, PutsEnds, Joins, IsGrown, JoinsFree, JoinsNew, JoinsNext}
+use Rattle.ci_overflow.specs.Rooms.{KeepsUsed, TakesIn, IsPut, ChangesLink, ChangesEnds, PutsEnds, Joins, IsGrown, JoinsFree, JoinsNew}
+use Rattle.ci_overflow.specs.inside.Rooms.{JoinsNext}
 
 -- an interval whose elements stay
 pub tiles-used : (old new : List ℕ) → IsInterval old → ((es : List Element) → Tiles old es → Tiles new es)

@@ -8,7 +8,8 @@ use Rattle.ci_space.specs.declared.head.Head.{Head}
 use Rattle.ci_space.specs.Interval.{IsFull}
 use Rattle.ci_overflow.specs.Places.{first_base, first_dependent, first_independent, uow_of}
 use Rattle.ci_overflow.specs.Lists.{bytes_at, link_of, owner_of, first_free, IsOwned}
-use Rattle.ci_overflow.specs.Rooms.{numbers_from, AreFull, TakesAt, IsTaken, IsTried, AreTried, IsFirst, IsLeft, IsOnChain, Joins, JoinsNext, IsOwnRoom, an_independent}
+use Rattle.ci_overflow.specs.Rooms.{numbers_from, AreFull, TakesAt, IsTaken, IsTried, AreTried, IsFirst, Joins, IsOwnRoom, an_independent}
+use Rattle.ci_overflow.specs.inside.Rooms.{IsLeft, IsOnChain, JoinsNext}
 use Rattle.ci_overflow.specs.Known.{AreFullTo, the_last, in_front, IsKnown}
 use Rattle.ci_overflow.specs.declared.reading.Tried.{Tried}
 use Rattle.ci_overflow.specs.declared.known.KnownFull.{KnownFull}

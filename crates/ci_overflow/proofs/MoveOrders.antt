@@ -6,7 +6,7 @@ use Rattle.ci_space.specs.Interval.{kind_of, IsEmpty, Keeps}
 use Rattle.ci_overflow.specs.Places.{first_base, first_independent}
 use Rattle.ci_overflow.specs.Lists.{bytes_at, link_of, owner_of, counted, first_free, IsChain, Holds, IsOnce, IsOwned, IsListOf, HasList, IsInPlace, IsInOrder}
 use Rattle.ci_overflow.specs.Rooms.{ChangesLink}
-use Rattle.ci_overflow.specs.Moves.{Moves}
+use Rattle.ci_overflow.specs.inside.Moves.{Moves}
 use Rattle.ci_overflow.proofs.Tries.{keeps-link, keeps-owner}
 use Rattle.ci_overflow.proofs.Joins.{base-before, kind-behind, counted-put, first_free-put, link-known, owner-known, kind-known}
 use Rattle.ci_overflow.proofs.Finds.{same_or}

@@ -8,7 +8,8 @@ use Rattle.ci_space.specs.Head.{head_of, ends_of}
 use Rattle.ci_overflow.specs.Places.{first_base, first_independent}
 use Rattle.ci_overflow.specs.Lists.{bytes_at, link_of, owner_of, counted, first_free, IsOwned}
 use Rattle.ci_overflow.specs.Rooms.{IsPut, ChangesLink, ChangesEnds, PutsEnds}
-use Rattle.ci_overflow.specs.Moves.{IsBefore, PutsLink, PutsFree, Moves}
+use Rattle.ci_overflow.specs.Moves.{IsBefore}
+use Rattle.ci_overflow.specs.inside.Moves.{PutsLink, PutsFree, Moves}
 use Rattle.ci_overflow.specs.declared.before.Numbered.{Numbered}
 use Rattle.ci_overflow.proofs.Joins.{tiles-used, changes-link, first_free_is, counted_is, link_is_number}
 

@@ -7,7 +7,8 @@ use Rattle.ci_space.specs.Interval.{kind_of, IsInterval, IsEmpty, Keeps}
 use Rattle.ci_space.specs.Head.{ends_of}
 use Rattle.ci_overflow.specs.Places.{first_base, first_independent, uow_of}
 use Rattle.ci_overflow.specs.Lists.{bytes_at, link_of, owner_of, counted, first_free, IsChain, Holds, IsOwned, IsListOf, HasList, IsInPlace, IsInOrder}
-use Rattle.ci_overflow.specs.Rooms.{places, AreTried, IsInUse, TakesAt, ChangesLink, JoinsFree, JoinsNew, JoinsNext}
+use Rattle.ci_overflow.specs.Rooms.{places, AreTried, IsInUse, TakesAt, ChangesLink, JoinsFree, JoinsNew}
+use Rattle.ci_overflow.specs.inside.Rooms.{JoinsNext}
 use Rattle.ci_overflow.proofs.Tries.{keeps-link, keeps-owner}
 use Rattle.ci_overflow.proofs.Joins.{base-before, kind-behind, counted-put, first_free-put, link-known, owner-known, kind-known}
 use Rattle.ci_overflow.proofs.Finds.{same_or, control-first, some_given}

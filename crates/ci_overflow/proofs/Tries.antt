@@ -10,7 +10,8 @@ use Rattle.ci_space.specs.Head.{head_of}
 use Rattle.ci_space.proofs.Places.{big_from-keeps}
 use Rattle.ci_overflow.specs.declared.reading.Tried.{Tried}
 use Rattle.ci_overflow.specs.Lists.{bytes_at, link_of, owner_of, IsChain}
-use Rattle.ci_overflow.specs.Rooms.{numbers_from, AreFull, IsFirst, TakesIn, IsPut, IsInUse, TakesAt, IsTried, AreTried, IsLeft, IsOnChain}
+use Rattle.ci_overflow.specs.Rooms.{numbers_from, AreFull, IsFirst, TakesIn, IsPut, IsInUse, TakesAt, IsTried, AreTried}
+use Rattle.ci_overflow.specs.inside.Rooms.{IsLeft, IsOnChain}
 
 -- a head that stays has its link and its owner
 pub keeps-link : (old new : List ℕ) → Keeps old new 0 32 → link_of new ≡ link_of old

@@ -6,3 +6,4 @@ pub mod Moves
 pub mod Faults
 pub mod Known
 pub mod Seen
+pub mod inside

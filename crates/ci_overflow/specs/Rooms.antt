@@ -4,7 +4,7 @@ use Rattle.ci_space.specs.declared.intervals.Shape.{Shape}
 use Rattle.ci_space.specs.Interval.{IsInterval, HasUsed, IsUsed, HasRoom, IsFull, OthersStay, Keeps, IsEmpty, kind_of, empty_bytes, is_size}
 use Rattle.ci_space.specs.Head.{head_of, ends_of}
 use Rattle.ci_overflow.specs.Places.{first_base, first_dependent, first_independent, uow_of, base_of}
-use Rattle.ci_overflow.specs.Lists.{bytes_at, link_of, owner_of, counted, first_free, IsChain, IsOwned, IsInOrder}
+use Rattle.ci_overflow.specs.Lists.{bytes_at, link_of, owner_of, counted, first_free, IsChain, IsOwned}
 use Rattle.ci_overflow.specs.declared.reading.Tried.{Tried}
 
 -- so many intervals from `first` on
@@ -95,16 +95,6 @@ pub record AreTried (old new : List (List ℕ)) (tried : List ℕ) (n : ℕ) (ro
 abbrev pub IsTaken : List (List ℕ) → List (List ℕ) → ℕ → Option (ℕ × ℕ) → Type 0
 IsTaken old new n room = IfSome room (λ room. (room.0 ≢ 0) × TakesAt old new room.0 n room.1)
 
--- what is left to try of these intervals, those before being full
-pub record IsLeft (area : List (List ℕ)) (n : ℕ) (all left : List ℕ) : Type 0 where
-  pub first : (ci : ℕ) → IsFirst area n left ci → IsFirst area n all ci
-  pub full : AreFull area n left → AreFull area n all
-
--- what is left of every chain from `first` on, where the walk has come to `ci`
-pub record IsOnChain (area : List (List ℕ)) (n first ci : ℕ) : Type 0 where
-  pub left : (chain : List ℕ) → IsChain area first chain → (rest : List ℕ) × IsChain area ci rest
-      × IsLeft area n chain rest
-
 -- the used elements and the bytes behind the head stay, and of the head all but the link
 pub record ChangesLink (old new : List ℕ) (link : ℕ) : Type 0 where
   pub used : KeepsUsed old new
@@ -172,11 +162,6 @@ pub record JoinsNew (shape : Shape) (uow : ℕ) (old new : List (List ℕ)) (n :
   pub ends : ChangesEnds (bytes_at old 0) control (counted old + 1) (first_free old)
   pub put : IsPut grown middle 0 control
   pub joins : Joins shape uow middle new room.0 (empty_bytes size 5) n room.1
-
--- the interval that joins the list is the first of the free chain, or where that is empty a new one
-pub record JoinsNext (shape : Shape) (uow : ℕ) (old new : List (List ℕ)) (n : ℕ) (room : ℕ × ℕ) : Type 0 where
-  pub from_free : first_free old ≢ 0 → JoinsFree shape uow old new n room
-  pub from_end : first_free old ≡ 0 → JoinsNew shape uow old new n room
 
 -- control's head and its first two numbers stay
 pub record KeepsEnds (old new : List ℕ) : Type 0 where
@@ -274,10 +259,3 @@ pub data IsOwnRoom (shape : Shape) (area : List (List ℕ)) (anchor ci : ℕ) : 
   a_dependent : first_dependent shape (uow_of shape anchor) ≤ ci
       → ci < first_dependent shape (uow_of shape anchor) + shape.overflow → IsOwnRoom shape area anchor ci
   an_independent : IsOwned shape area (uow_of shape anchor + 1) ci → IsOwnRoom shape area anchor ci
-
--- what a new element is, in whatever order the lists were, and what more it is where they were in order
-pub record TakesOne (shape : Shape) (old new : List (List ℕ)) (anchor n : ℕ) (room : ℕ × ℕ) : Type 0 where
-  pub takes : TakesRoom shape old new anchor n room
-  pub own : IsOwnRoom shape new anchor room.0
-  pub finds : IsInOrder shape old → FindsRoom shape old new anchor n room
-  pub in_order : IsInOrder shape old → IsInOrder shape new

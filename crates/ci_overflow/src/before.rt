@@ -6,7 +6,8 @@ ghost use Rattle.fp_lists.specs.Faults.{Rose};
 ghost use Rattle.ci_space.specs.Interval.{IsInterval, kind_of};
 ghost use Rattle.ci_overflow.specs.Places.{first_base, first_independent};
 ghost use Rattle.ci_overflow.specs.Lists.{bytes_at, link_of, owner_of, IsOwned};
-ghost use Rattle.ci_overflow.specs.Moves.{IsBefore, IsInList, LeadsTo, EndsWithout};
+ghost use Rattle.ci_overflow.specs.Moves.{IsBefore, IsInList};
+ghost use Rattle.ci_overflow.specs.inside.Moves.{LeadsTo, EndsWithout};
 ghost use Rattle.ci_overflow.specs.Faults.{IsAtFault};
 
 use crate::SpaceFault;

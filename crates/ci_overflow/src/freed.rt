@@ -8,7 +8,7 @@ ghost use Rattle.ci_space.specs.Interval.{IsInterval, IsUsed, IsEmpty, Keeps, ki
 ghost use Rattle.ci_overflow.specs.Places.{first_independent};
 ghost use Rattle.ci_overflow.specs.Lists.{bytes_at, owner_of, IsInOrder};
 ghost use Rattle.ci_overflow.specs.Freed.{GivesBack, TakesBack};
-ghost use Rattle.ci_overflow.specs.Moves.{Moves, PutsLink, PutsFree, HasNoUnit};
+ghost use Rattle.ci_overflow.specs.inside.Moves.{Moves, PutsLink, PutsFree, HasNoUnit};
 ghost use Rattle.ci_overflow.specs.Faults.{IsAtFault};
 
 use crate::SpaceFault;

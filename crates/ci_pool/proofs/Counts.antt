@@ -4,7 +4,8 @@ use Rattle.std.specs.Prelude.{Some, IsSome, is_some, if◌then◌else◌}
 use Rattle.std.proofs.lemmas.Bool.{cases_Bool}
 use Rattle.ci_pool.specs.declared.cell.Cell.{Cell}
 use Rattle.ci_pool.specs.Cells.{cell_at, is_of, comes_before, waiting_number, pending_number}
-use Rattle.ci_pool.specs.Changes.{without, with_cell, after_write, is_staged}
+use Rattle.ci_pool.specs.Changes.{is_staged}
+use Rattle.ci_pool.specs.inside.Changes.{without, with_cell, after_write}
 use Rattle.ci_pool.specs.Held.{waiting_of}
 
 -- one is taken out,

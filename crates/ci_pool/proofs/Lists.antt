@@ -7,7 +7,8 @@ use Rattle.std.proofs.lemmas.Bool.Decides.{nat_tests}
 use Rattle.ci_pool.specs.declared.cell.Cell.{Cell}
 use Rattle.ci_pool.specs.declared.cell.Waiting.{Waiting}
 use Rattle.ci_pool.specs.Cells.{comes_before, is_of, cell_at, renewed_by}
-use Rattle.ci_pool.specs.Changes.{is_staged, is_only_staged, AllCells, Follows, IsAscending, least, any_staged, first_by, oldest_of, newest_of, oldest_in, newest_in, may_pay, may_pay_by, waits_by, waits_up_to, without, with_cell, published, unstaged, all_published, all_unstaged}
+use Rattle.ci_pool.specs.Changes.{is_staged, AllCells, Follows, IsAscending, least, any_staged, oldest_of, newest_of, oldest_in, newest_in}
+use Rattle.ci_pool.specs.inside.Changes.{is_only_staged, first_by, may_pay, may_pay_by, waits_by, waits_up_to, without, with_cell, published, unstaged, all_published, all_unstaged}
 
 -- the least number of cells is at most the greatest one,
 least_most : (of : Cell → ℕ) (l : List Cell) → least of l ≤ 2 ^ 64 - 1

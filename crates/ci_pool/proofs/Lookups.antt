@@ -5,7 +5,8 @@ use Rattle.std.proofs.lemmas.Bool.{cases_Bool, or_parts}
 use Rattle.std.proofs.lemmas.Bool.Decides.{nat_tests}
 use Rattle.ci_pool.specs.declared.cell.Cell.{Cell}
 use Rattle.ci_pool.specs.Cells.{comes_before, is_of, cell_at, Listed}
-use Rattle.ci_pool.specs.Changes.{is_staged, is_only_staged, any_staged, AllCells, Follows, IsAscending, without, with_cell, published, all_published, all_unstaged, unstaged_by, after_write, after_write_by, staged_cell, unlisted, unlisted_one}
+use Rattle.ci_pool.specs.Changes.{is_staged, any_staged, AllCells, Follows, IsAscending}
+use Rattle.ci_pool.specs.inside.Changes.{is_only_staged, without, with_cell, published, all_published, all_unstaged, unstaged_by, after_write, after_write_by, staged_cell, unlisted, unlisted_one}
 use Rattle.ci_pool.proofs.Lists.{all_map, none_behind, none_this, of_same, all_of_unstaged}
 
 -- the cell of an interval is of it

@@ -8,7 +8,8 @@ use Rattle.lru.proofs.CallerLemmas.{Contains-lookup_entry}
 use Rattle.ci_pool.specs.declared.cell.Cell.{Cell}
 use Rattle.ci_pool.specs.declared.cell.Waiting.{Waiting}
 use Rattle.ci_pool.specs.Cells.{Listed, is_key, cell_at, renewed, renewed_by}
-use Rattle.ci_pool.specs.Changes.{is_staged, is_only_staged, published, unstaged_by, after_write_by, staged_cell}
+use Rattle.ci_pool.specs.Changes.{is_staged}
+use Rattle.ci_pool.specs.inside.Changes.{is_only_staged, published, unstaged_by, after_write_by, staged_cell}
 use Rattle.ci_pool.specs.Held.{Held, waiting_of, staged_of, bytes_of, pending_at, interval_in, IsClean, HasSize, brought_first, IsPool, clean_at, held_at, first_of}
 use Rattle.ci_pool.proofs.CleanLists.{entry_is, on_list}
 use Rattle.ci_pool.proofs.Lookups.{key_same}

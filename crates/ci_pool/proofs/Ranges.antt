@@ -5,7 +5,8 @@ use Rattle.std.proofs.lemmas.List.{ext_get_or, length-take, length-append, lengt
 use Rattle.std.proofs.lemmas.Bool.{cases_lt}
 use Rattle.std.proofs.lemmas.Bool.Decides.{nat_tests}
 use Rattle.fp_site.specs.Disk.{Broken, covers, read_range, written}
-use Rattle.fp_site.specs.Written.{zeros, get_or-append_zeros, written_other}
+use Rattle.fp_site.specs.Written.{zeros, written_other}
+use Rattle.fp_site.specs.inside.Written.{get_or-append_zeros}
 
 -- what is read is as long as was asked
 pub length_read : (xs : List ℕ) (at count : ℕ) → length (read_range xs at count) ≡ count

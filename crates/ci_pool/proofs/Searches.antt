@@ -6,7 +6,8 @@ use Rattle.std.proofs.lemmas.Bool.Decides.{nat_tests}
 use Rattle.ci_pool.specs.declared.cell.Cell.{Cell}
 use Rattle.ci_pool.specs.declared.cell.Waiting.{Waiting}
 use Rattle.ci_pool.specs.Cells.{comes_before, is_of, cell_at}
-use Rattle.ci_pool.specs.Changes.{AllCells, Follows, IsAscending, first_by, least, oldest_of, newest_of, oldest_in, newest_in, may_pay, may_pay_by, waits_up_to, waits_by}
+use Rattle.ci_pool.specs.Changes.{AllCells, Follows, IsAscending, least, oldest_of, newest_of, oldest_in, newest_in}
+use Rattle.ci_pool.specs.inside.Changes.{first_by, may_pay, may_pay_by, waits_up_to, waits_by}
 use Rattle.ci_pool.specs.Held.{Held, waiting_of, IsOldestSealed, NoneSealed, NoneOwes, IsFirstOwed, AreUnsealed}
 use Rattle.ci_pool.proofs.Lists.{of_same, not_of_before}
 use Rattle.ci_pool.proofs.Lookups.{of_found}

@@ -9,7 +9,8 @@ use Rattle.std.proofs.lemmas.Map.Made.{IsDistinct-keys_filter}
 use Rattle.lru.proofs.Splits.{Contains-cons, Contains-nil, Contains-tail, Contains-head}
 use Rattle.ci_pool.specs.declared.cell.Cell.{Cell}
 use Rattle.ci_pool.specs.Cells.{Listed, is_key, is_of, comes_before, cell_at}
-use Rattle.ci_pool.specs.Changes.{is_staged, AllCells, Follows, IsAscending, unlisted, unlisted_one}
+use Rattle.ci_pool.specs.Changes.{is_staged, AllCells, Follows, IsAscending}
+use Rattle.ci_pool.specs.inside.Changes.{unlisted, unlisted_one}
 use Rattle.ci_pool.specs.Held.{staged_of}
 use Rattle.ci_pool.proofs.Lists.{of_same, all_map}
 

@@ -22,7 +22,3 @@ marks_of cells = record { oldest = least oldest_of cells; newest = least newest_
 abbrev pub IsTree : Option (Box Fork Global) → Type 0
 IsTree None = Unit {0}
 IsTree (Some fork) = IsAscending (below fork.value) × (fork.value.marks ≡ marks_of (below fork.value))
-
--- the cell of a node
-abbrev pub cell_of : Box Fork Global → Cell
-cell_of fork = fork.value.cell

@@ -2,7 +2,8 @@
 
 ghost use Rattle.std.specs.Prelude.{◌≡◌, ◌↔◌, IsTrue, IsSome, Some, None};
 ghost use Rattle.ci_pool.specs.Cells.{is_of, comes_before};
-ghost use Rattle.ci_pool.specs.Changes.{published, unstaged, after_write, staged_with, oldest_of, newest_of, is_staged, is_only_staged, may_pay, waits_up_to};
+ghost use Rattle.ci_pool.specs.Changes.{oldest_of, newest_of, is_staged};
+ghost use Rattle.ci_pool.specs.inside.Changes.{published, unstaged, after_write, staged_with, is_only_staged, may_pay, waits_up_to};
 
 use fp_lists::Bytes;
 

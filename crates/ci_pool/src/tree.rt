@@ -8,9 +8,11 @@
 ghost use Rattle.std.specs.Prelude.{◌≡◌, [], ◌∷◌, ◌++◌, ℕ, ◌==◌, ◌&&◌, if◌then◌else◌, ◌<◌, IsSome, IsTrue, IfSome, IfNone, IfOk, OnOk, OnErr, Some, None, option_copied, option_map};
 ghost use Rattle.lru.specs.LruCache.{lru_cache};
 ghost use Rattle.ci_pool.specs.Cells.{cell_at, comes_before, pending_number};
-ghost use Rattle.ci_pool.specs.Changes.{IsAscending, AllCells, oldest_of, newest_of, least, any_staged, first_by, may_pay, waits_up_to, without, with_cell, all_published, all_unstaged, published, unstaged_by, after_write, after_write_by, staged_cell, is_staged, unlisted, unlisted_one};
+ghost use Rattle.ci_pool.specs.Changes.{IsAscending, AllCells, oldest_of, newest_of, least, any_staged, is_staged};
+ghost use Rattle.ci_pool.specs.inside.Changes.{first_by, may_pay, waits_up_to, without, with_cell, all_published, all_unstaged, published, unstaged_by, after_write, after_write_by, staged_cell, unlisted, unlisted_one};
 ghost use Rattle.ci_pool.specs.Held.{bytes_of, waiting_of};
-ghost use Rattle.ci_pool.specs.Trees.{cells_of, below, marks_of, cell_of, IsTree};
+ghost use Rattle.ci_pool.specs.Trees.{cells_of, below, marks_of, IsTree};
+ghost use Rattle.ci_pool.specs.inside.Trees.{cell_of};
 
 use crate::cell::Cell;
 use crate::clean::Clean;

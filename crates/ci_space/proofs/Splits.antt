@@ -2,7 +2,8 @@
 use Rattle.std.proofs.Common.{◌≡◌, ℕ, zero, suc, ◌+◌, ◌-◌, ◌%◌, ◌<◌, ◌≤◌, List, [], ◌∷◌, ◌++◌, length, drop, slice_range, refl, sym, ap, ◌∙◌, add_assoc, zero-add, arith}
 use Rattle.std.proofs.lemmas.List.{length-take, length-drop}
 use Rattle.ci_space.specs.Element.{Element, Free, Used, size, sizes, Begins, StandsAt, Chain, IsMerged, front_free, merged, rest_free}
-use Rattle.ci_space.specs.Walk.{length_of, last_free, first_free}
+use Rattle.ci_space.specs.Walk.{length_of}
+use Rattle.ci_space.specs.inside.Walk.{last_free, first_free}
 use Rattle.ci_space.specs.Interval.{Keeps}
 use Rattle.ci_space.proofs.Chains.{Chain-end, Chain-append, Chain-front, Chain-back, Chain-keeps}
 

@@ -2,7 +2,8 @@
 use Rattle.std.proofs.Common.{◌≡◌, ◌≢◌, ℕ, zero, suc, ◌+◌, ◌-◌, ◌<◌, ◌≤◌, ◌⊎◌, inl, inr, Bool, true, false, List, [], ◌∷◌, ◌++◌, length, drop, slice_index, refl, sym, ap, ◌∙◌, add_assoc, append_assoc, arith, IsTrue}
 use Rattle.std.proofs.lemmas.Bool.{cases_Bool}
 use Rattle.std.proofs.lemmas.List.{length-append, length-drop}
-use Rattle.ci_space.specs.Element.{Element, Free, Used, size, sizes, Begins, Chain, IsMerged, StandsAmong, front_free, merged, rest_free, size_for}
+use Rattle.ci_space.specs.Element.{Element, Free, Used, size, sizes, Begins, Chain, IsMerged, front_free, merged, rest_free, size_for}
+use Rattle.ci_space.specs.inside.Element.{StandsAmong}
 use Rattle.ci_space.specs.Interval.{kind_of, has_elements, Tiles, HasUsed, IsInterval, IsEmpty, IsUsed, HasRoom, Takes, UsedBecomes, UsedIsFreed, OthersStay}
 use Rattle.ci_space.specs.Walk.{length_of, TilesFrom}
 use Rattle.ci_space.proofs.Chains.{Chain-unique, Chain-end, Chain-append, least_size}

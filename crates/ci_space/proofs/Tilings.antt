@@ -2,7 +2,8 @@
 use Rattle.std.proofs.Common.{◌≡◌, ◌≢◌, ℕ, zero, suc, ◌+◌, ◌-◌, ◌%◌, ◌<◌, ◌≤◌, Bool, true, false, List, [], ◌∷◌, ◌++◌, length, refl, sym, ap, ◌∙◌, append_assoc, arith, IsTrue}
 use Rattle.ci_space.specs.Element.{Element, Free, Used, size, sizes, Begins, Chain, IsMerged, merged, size_for, rest_free}
 use Rattle.ci_space.specs.Interval.{is_size, kind_of, has_elements, IsZero, IsHead, Tiles, IsInterval, IsUsed, Takes, IsFull}
-use Rattle.ci_space.specs.Walk.{TilesFrom, length_of, last_free, first_free, WalksPast, IsFirstFree, Splits, Puts}
+use Rattle.ci_space.specs.Walk.{TilesFrom, length_of}
+use Rattle.ci_space.specs.inside.Walk.{last_free, first_free, WalksPast, IsFirstFree, Splits, Puts}
 use Rattle.ci_space.specs.Interval.{Keeps}
 use Rattle.ci_space.proofs.Chains.{Chain-end, Chain-append, Chain-front, Chain-back}
 use Rattle.ci_space.proofs.Walks.{IsWhole, first-whole}

@@ -3,7 +3,8 @@ use Rattle.std.proofs.Common.{◌≡◌, ◌≢◌, ℕ, ◌+◌, ◌%◌, ◌<�
 use Rattle.std.specs.List.{All}
 use Rattle.std.proofs.lemmas.List.Elements.{All-push, All-nil}
 use Rattle.ci_space.specs.Element.{Element, Free, Used, size, sizes, StandsAt, Chain, IsMerged, free_size}
-use Rattle.ci_space.specs.Walk.{TilesFrom, length_of, WalksPast, IsFirstFree, last_free, first_free, WalksTo}
+use Rattle.ci_space.specs.Walk.{TilesFrom, length_of}
+use Rattle.ci_space.specs.inside.Walk.{WalksPast, IsFirstFree, last_free, first_free, WalksTo}
 use Rattle.ci_space.proofs.Chains.{Chain-end, Chain-append, least_size, Chain-unique}
 
 -- the element at `at` is whole

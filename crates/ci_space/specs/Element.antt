@@ -1,5 +1,5 @@
 -- What an interval is tiled with: elements, one behind the other.
-use Rattle.std.specs.Prelude.{◌≡◌, ℕ, suc, zero, ◌+◌, ◌*◌, ◌/◌, ◌%◌, ◌≤◌, List, [], ◌∷◌, length, slice_index, slice_range, ⊤, ◌⊎◌}
+use Rattle.std.specs.Prelude.{◌≡◌, ℕ, suc, zero, ◌+◌, ◌*◌, ◌/◌, ◌%◌, ◌≤◌, List, [], ◌∷◌, length, slice_index, slice_range, ⊤}
 
 -- a free element has its length, a used one its segment type and its content
 pub data Element : Type 0 where
@@ -33,11 +33,6 @@ StandsAt bytes at (Used segment content) =
 abbrev pub Chain : List Element → List ℕ → ℕ → ℕ → Type 0
 Chain [] bytes at end = at ≡ end
 Chain (e ∷ es) bytes at end = StandsAt bytes at e × Chain es bytes (at + size e) end
-
--- this element stands at `at` among those that stand one behind the other from `from` on
-abbrev pub StandsAmong : List Element → ℕ → ℕ → Element → Type 0
-StandsAmong [] from at e = ⊥
-StandsAmong (d ∷ es) from at e = ((at ≡ from) × (d ≡ e)) ⊎ StandsAmong es (from + size d) at e
 
 -- no free element comes first
 abbrev pub StartsUsed : List Element → Type 0

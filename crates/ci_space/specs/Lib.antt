@@ -5,3 +5,4 @@ pub mod Numbers
 pub mod Calls
 pub mod Memory
 pub mod Walk
+pub mod inside

@@ -9,7 +9,8 @@
 ghost use Rattle.std.specs.Prelude.{◌≡◌, ◌≢◌, ℕ, ◌+◌, ◌-◌, ◌*◌, ◌<◌, ◌≤◌, ◌↔◌, ◌%◌, ◌^◌, ◌==◌, List, [], ◌∷◌, ◌++◌, length, drop, replicate, slice_index, slice_set, slice_range, All, IsTrue, false, true, IfSome, IfNone};
 ghost use Rattle.ci_space.specs.Element.{Element, Used, Chain, Begins, size_for};
 ghost use Rattle.ci_space.specs.Interval.{IsZero, IsInterval, IsEmpty, IsUsed, HasRoom, Takes, IsFull, HasUsed, UsedBecomes, written, UsedIsFreed, OthersStay, has_elements, kind_of, is_size, empty_bytes};
-ghost use Rattle.ci_space.specs.Walk.{TilesFrom, length_of, Puts, WalksPast, IsFirstFree, Splits, last_free, first_free, WalksTo};
+ghost use Rattle.ci_space.specs.Walk.{TilesFrom, length_of};
+ghost use Rattle.ci_space.specs.inside.Walk.{Puts, WalksPast, IsFirstFree, Splits, last_free, first_free, WalksTo};
 ghost use Rattle.ci_space.specs.Interval.{Keeps};
 
 /// The bytes of an interval before its elements.

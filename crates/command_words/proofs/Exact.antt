@@ -5,8 +5,9 @@ use Rattle.std.proofs.lemmas.Slice.Eq.{bytes_eq-Decides}
 use Rattle.std.specs.Cmp.Lexicographic.{same_text as text_is}
 use Rattle.clap.specs.Words.{fault_of}
 use Rattle.fp_model.specs.Texts.{same_text}
-use Rattle.command_words.specs.Apps.{program_app}
-use Rattle.command_words.specs.Words.{AreWords, command_named, command_of, is_word}
+use Rattle.command_words.specs.inside.Apps.{program_app}
+use Rattle.command_words.specs.Words.{command_named, command_of, is_word}
+use Rattle.command_words.specs.inside.Words.{AreWords}
 use Rattle.command_words.specs.declared.words.Command.{Command}
 use Rattle.command_words.proofs.Forms.{audit_1, audit_2, audit_3, audit_name, define_1, define_2, define_3, define_name, log_1, log_2, log_3, log_name, migrate_1, migrate_2, migrate_3, migrate_name, name_in, no_words, run_1, run_2, run_3, run_name, show_1, show_2, show_3, show_name, unknown}
 

@@ -7,7 +7,7 @@ use Rattle.clap.specs.declared.parser.matches.ArgMatches.TheViews.{out-SubComman
 use Rattle.clap.specs.declared.parser.matches.SubCommand.{SubCommand}
 use Rattle.clap.specs.declared.error.kind.ErrorKind.TheVariants as kind
 use Rattle.clap.proofs.OnLiterals.{clap_on_literals}
-use Rattle.command_words.specs.Apps.{program_app}
+use Rattle.command_words.specs.inside.Apps.{program_app}
 
 pub simple_and_free : is_simple_and_free program_app ≡ true
 unfolding clap_on_literals

@@ -1,5 +1,5 @@
 -- The words of a command.
-use Rattle.std.specs.Prelude.{◌≡◌, ℕ, List, [], ◌∷◌, Bool, true, false, not, ◌&&◌, ◌==◌, if◌then◌else◌, codes, Option, Some, None}
+use Rattle.std.specs.Prelude.{ℕ, List, [], ◌∷◌, Bool, false, not, ◌==◌, if◌then◌else◌, codes, Option, Some, None}
 use Rattle.fp_model.specs.Texts.{same_text}
 use Rattle.command_words.specs.declared.words.Command.{Command}
 use Rattle.command_words.specs.declared.words.Command.TheVariants.{Define, Run, Show, Log, Migrate, Audit}
@@ -8,11 +8,6 @@ use Rattle.command_words.specs.declared.words.Command.TheVariants.{Define, Run, 
 abbrev pub is_word : List ℕ → Bool
 is_word [] = false
 is_word (b ∷ bs) = not (b == 45)
-
--- they all are
-abbrev pub AreWords : List (List ℕ) → Type 0
-AreWords [] = Unit {0}
-AreWords (w ∷ ws) = (is_word w ≡ true) × AreWords ws
 
 -- the command of a name
 abbrev pub command_named : List ℕ → Option Command

@@ -1,7 +1,7 @@
 //! The command line as `clap` sees it.
 ghost use Rattle.clap.specs.Words.{app_of, with_subcommand};
 ghost use Rattle.clap.specs.declared.builder.command.Command.TheViews.{out-Command};
-ghost use Rattle.command_words.specs.Apps.{folder_app, program_app, top_app};
+ghost use Rattle.command_words.specs.inside.Apps.{folder_app, program_app, top_app};
 ghost use Rattle.std.specs.Prelude.{◌≡◌, false, IfOk};
 
 use clap::{Arg, Command};

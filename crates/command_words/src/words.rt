@@ -1,5 +1,6 @@
 //! The words of a command.
-ghost use Rattle.command_words.specs.Words.{AreWords, command_named, command_of, is_word};
+ghost use Rattle.command_words.specs.Words.{command_named, command_of, is_word};
+ghost use Rattle.command_words.specs.inside.Words.{AreWords};
 ghost use Rattle.std.specs.Prelude.{◌≡◌, ◌↔◌, map, string_bytes, IfOk, IsTrue};
 
 use crate::app::program_command;

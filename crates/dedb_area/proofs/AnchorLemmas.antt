@@ -22,7 +22,8 @@ use Rattle.area_states.specs.States.{HasAnchor, HasState}
 use Rattle.area_states.proofs.Changing.{in_area}
 use Rattle.area_states.proofs.StateLemmas.{one_anchor}
 use Rattle.area_reading.proofs.Readable.{readable}
-use Rattle.dedb_area.specs.Anchors.{AnchorIsAtHand, AreInTime, AreRootsOf, CountsIntervals, HasAnchorIn, IsAnchorOf, IsBegin, IsDamagedFor, IsFaulty, ShowsArea, ShowsAreas, intervals_of, uncounted, unreadable}
+use Rattle.dedb_area.specs.Anchors.{AnchorIsAtHand, AreInTime, AreRootsOf, CountsIntervals, HasAnchorIn, IsAnchorOf, IsBegin, IsDamagedFor, IsFaulty, intervals_of, uncounted, unreadable}
+use Rattle.dedb_area.specs.inside.Anchors.{ShowsArea, ShowsAreas}
 use Rattle.dedb_area.specs.Control.{IsControl}
 use Rattle.area_staging.specs.Looking.{LooksAt}
 use Rattle.area_staging.specs.Staging.{AllAtHand, IsToldPool, KeepsStaging, staged_area, staged_or_newest}

@@ -15,7 +15,8 @@ use Rattle.ci_pool.specs.Held.{Held, pending_at, staged_at, HasSize}
 use Rattle.area_states.specs.declared.place.Place.{Place}
 use Rattle.area_states.specs.Places.{place_at}
 use Rattle.dedb_area.specs.Standing.{IsFitPool, IsUnstaged}
-use Rattle.dedb_area.specs.Applying.{pending_bytes, with_items_at, IsApplied, IsPended, EndsInTime, IsFitImage, LiesWithin, IsAppliable, IsWithoutImage, LacksImage}
+use Rattle.dedb_area.specs.Applying.{pending_bytes, with_items_at, IsApplied, IsFitImage, LiesWithin, LacksImage}
+use Rattle.dedb_area.specs.inside.Applying.{IsPended, EndsInTime, IsAppliable, IsWithoutImage}
 
 -- ---- one list of items after another
 

@@ -29,7 +29,8 @@ use Rattle.area_laws.proofs.OrderLemmas.{changed_order, fit_changes_keep_lists, 
 use Rattle.area_staging.specs.Items.{is_imaged}
 use Rattle.dedb_area.specs.Anchors.{AreInTime, CountsIntervals}
 use Rattle.dedb_area.specs.Appending.{MayEnter}
-use Rattle.dedb_area.specs.Committing.{AreStagedUpTo, FitAreas, FitsCommit, IsFirstFull, OneSegmentChanges, committed, is_concerned}
+use Rattle.dedb_area.specs.Committing.{FitsCommit, committed, is_concerned}
+use Rattle.dedb_area.specs.inside.Committing.{AreStagedUpTo, FitAreas, IsFirstFull, OneSegmentChanges}
 use Rattle.dedb_area.specs.Control.{IsControl}
 use Rattle.dedb_area.specs.Standing.{AreasStand, Holding}
 use Rattle.dedb_area.proofs.AnchorLemmas.{counted_area, first_bytes, some_counted, state_here, within_areas}

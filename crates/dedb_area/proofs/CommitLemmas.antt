@@ -25,7 +25,8 @@ use Rattle.area_laws.proofs.InsertLemmas.{all_pass}
 use Rattle.area_staging.specs.Changing.{MakeChanges}
 use Rattle.area_staging.specs.Staging.{length_listed}
 use Rattle.dedb_area.specs.Anchors.{intervals_of}
-use Rattle.dedb_area.specs.Committing.{HasRoomFor, IsChangedTo, MakesArea, committed, has_change, has_insert, is_concerned}
+use Rattle.dedb_area.specs.Committing.{committed, has_change, has_insert, is_concerned}
+use Rattle.dedb_area.specs.inside.Committing.{HasRoomFor, IsChangedTo, MakesArea}
 use Rattle.dedb_area.proofs.AnchorLemmas.{first_bytes}
 
 module _ (place : Place) (set count : ℕ) (imaged : ℕ → Bool) (bytes : ℕ → List ℕ) (state : AreaState) (changed : Changes)

@@ -24,7 +24,8 @@ use Rattle.area_states.proofs.StateLemmas.{has_one_state}
 use Rattle.area_staging.specs.Changing.{IsFitFor, MakeChanges}
 use Rattle.area_staging.specs.Staging.{length_listed}
 use Rattle.dedb_area.specs.Anchors.{intervals_of}
-use Rattle.dedb_area.specs.Committing.{ChangesOneSegment, MakesArea, OneChanged, committed, is_concerned}
+use Rattle.dedb_area.specs.Committing.{committed, is_concerned}
+use Rattle.dedb_area.specs.inside.Committing.{ChangesOneSegment, MakesArea, OneChanged}
 
 pub not_both : true ≡ false → ⊥
 not_both e = cc

@@ -14,7 +14,8 @@ use Rattle.held_intervals.specs.Holding.{Changes, held_or, listed}
 use Rattle.seq_dependents.specs.Control.{ChangesEnds, PutsEnds, begin_in, begin_of, end_in, end_of}
 use Rattle.area_states.specs.declared.place.Place.{Place}
 use Rattle.area_states.specs.Places.{IsPlace, counted_by}
-use Rattle.dedb_area.specs.Anchors.{ShowsArea, intervals_of}
+use Rattle.dedb_area.specs.Anchors.{intervals_of}
+use Rattle.dedb_area.specs.inside.Anchors.{ShowsArea}
 use Rattle.dedb_area.specs.Purging.{IsPurged, with_control}
 use Rattle.area_staging.specs.Staging.{length_listed, staged_area, staged_or_newest}
 use Rattle.dedb_area.proofs.AnchorLemmas.{first_bytes, some_counted}

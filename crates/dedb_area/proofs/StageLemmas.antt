@@ -8,7 +8,8 @@ use Rattle.area_states.specs.declared.place.Place.{Place}
 use Rattle.area_states.specs.Places.{counted_by}
 use Rattle.area_states.specs.States.{AreaState, HasState}
 use Rattle.area_staging.specs.Changing.{Shows, StagesItems}
-use Rattle.dedb_area.specs.Anchors.{ShowsArea, intervals_of}
+use Rattle.dedb_area.specs.Anchors.{intervals_of}
+use Rattle.dedb_area.specs.inside.Anchors.{ShowsArea}
 
 -- what an area shows, by how many intervals it has
 pub shows_extent : (place : Place) (set count : ℕ) (contents : ℕ → List ℕ) (pool : Held) (bytes : ℕ → List ℕ)

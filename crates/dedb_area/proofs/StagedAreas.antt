@@ -20,13 +20,15 @@ use Rattle.area_states.specs.declared.place.Place.{Place}
 use Rattle.area_states.specs.Databases.{state_of}
 use Rattle.area_states.specs.Places.{counted_by, layout_of, place_at}
 use Rattle.area_states.specs.States.{AreaState, HasState}
-use Rattle.area_staging.specs.Changing.{AllBefore, IsFitFor, IsLeastOf, StagesItems}
+use Rattle.area_staging.specs.Changing.{IsFitFor, IsLeastOf, StagesItems}
+use Rattle.area_staging.specs.inside.Changing.{AllBefore}
 use Rattle.area_staging.specs.Flags.{AreFlagged, IsFlagged}
 use Rattle.area_staging.specs.Items.{DiffersAtEnds, HasFlag}
 use Rattle.area_staging.proofs.Flags.{all_flagged}
 use Rattle.area_staging.proofs.Orders.{all_fit_before, all_join, all_later, all_then, ascends_join, before_all_fit}
 use Rattle.dedb_area.specs.Anchors.{intervals_of}
-use Rattle.dedb_area.specs.Committing.{AreStagedUpTo, HasRoomFor, IsFitItem, IsLeast, MakesArea, committed}
+use Rattle.dedb_area.specs.Committing.{IsFitItem, IsLeast, committed}
+use Rattle.dedb_area.specs.inside.Committing.{AreStagedUpTo, HasRoomFor, MakesArea}
 use Rattle.dedb_area.specs.Standing.{IsUnstaged}
 use Rattle.dedb_area.proofs.AnchorLemmas.{within_areas}
 

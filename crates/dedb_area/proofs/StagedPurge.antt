@@ -25,7 +25,8 @@ use Rattle.dedb_area.specs.Looking.{LooksAtAreas}
 use Rattle.area_staging.specs.Flags.{AreFlagged, IsFlagged}
 use Rattle.dedb_area.specs.Publishing.{IsFitStaged}
 use Rattle.area_staging.specs.Items.{items_in}
-use Rattle.dedb_area.specs.Purging.{IsControlStaged, IsJustStaged, IsPurgeStaged, IsPurged, MayPurge}
+use Rattle.dedb_area.specs.Purging.{IsJustStaged, IsPurgeStaged, IsPurged, MayPurge}
+use Rattle.dedb_area.specs.inside.Purging.{IsControlStaged}
 use Rattle.area_staging.specs.Staging.{length_listed}
 use Rattle.dedb_area.specs.Standing.{AreasStand, Holding, IsFitPool, IsUnstaged, due_of, owed_of}
 use Rattle.dedb_area.proofs.AnchorLemmas.{first_bytes, some_counted}

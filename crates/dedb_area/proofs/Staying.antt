@@ -19,9 +19,9 @@ use Rattle.area_staging.specs.Changing.{Stages}
 use Rattle.area_staging.specs.Items.{is_imaged}
 use Rattle.area_staging.specs.Looking.{stays_itself}
 use Rattle.area_staging.proofs.Stages.{newest_stays}
-use Rattle.dedb_area.specs.Anchors.{ShowsAreas}
+use Rattle.dedb_area.specs.inside.Anchors.{ShowsAreas}
 use Rattle.dedb_area.specs.Appending.{StagedStand, StagesInAreas}
-use Rattle.dedb_area.specs.Committing.{StagesAll}
+use Rattle.dedb_area.specs.inside.Committing.{StagesAll}
 use Rattle.dedb_area.specs.Publishing.{IsFitStaged}
 use Rattle.dedb_area.specs.Standing.{AreasStand, Holding, IsFitPool, IsUnstaged, due_of, owed_of}
 

@@ -17,7 +17,8 @@ use Rattle.ci_pool.specs.Held.{Held, IsClean}
 use Rattle.area_states.specs.declared.place.Place.{Place}
 use Rattle.area_states.specs.Places.{layout_of}
 use Rattle.dedb_area.specs.Standing.{owed_of, AreSynced}
-use Rattle.dedb_area.specs.Keeping.{AreDurable, KeepsStanding, KeepsAreas, OnlyAreas, SyncsAreas}
+use Rattle.dedb_area.specs.Keeping.{AreDurable, KeepsAreas, OnlyAreas}
+use Rattle.dedb_area.specs.inside.Keeping.{KeepsStanding, SyncsAreas}
 use Rattle.dedb_area.proofs.AnchorLemmas.{within_areas}
 
 module _ (layout : Layout) (way : Way) (owed : Owed) (bytes : AreaBytes) where

@@ -1,5 +1,5 @@
 -- What items of the log make of the intervals at hand.
-use Rattle.std.specs.Prelude.{◌≡◌, ⊤, ℕ, ◌+◌, ◌*◌, ◌≤◌, ◌^◌, ◌==◌, ◌&&◌, if◌then◌else◌, List, [], length, take, slice_get, Option, Some}
+use Rattle.std.specs.Prelude.{◌≡◌, ⊤, ℕ, ◌+◌, ◌*◌, ◌≤◌, ◌^◌, if◌then◌else◌, List, [], length, take, slice_get, Option, Some}
 use Rattle.fp_model.specs.declared.log.Item.{Item}
 use Rattle.fp_model.specs.declared.log.Item.TheVariants.{Segment, Image, Range}
 use Rattle.ci_pool.specs.declared.cell.Waiting.{Waiting}
@@ -23,24 +23,12 @@ abbrev pub IsApplied : ℕ → List Item → Held → Held → Type 0
 IsApplied place items before after =
     (set ci : ℕ) → pending_at after set ci ≡ with_items_at place set ci items (pending_at before set ci)
 
--- one interval is pending with these bytes for the entry at a place, and the others are as before
-abbrev pub IsPended : ℕ → ℕ → ℕ → List ℕ → Held → Held → Type 0
-IsPended place set ci bytes before after =
-    (s k : ℕ) → pending_at after s k
-    ≡ (if s == set && k == ci then Some (renewed place bytes (pending_at before s k)) else pending_at before s k)
-
 -- an interval of an area, of the area's size, that ends at or before byte 2^62
 pub record IsFitInterval (places : List Place) (set ci size : ℕ) : Type 0 where
   pub place : Place
   pub is_place : place_at places set ≡ Some place
   pub is_size : size ≡ place.shape.ci
   pub ends : (ci + 1) * size ≤ 2 ^ 62
-
--- an image ends at or before byte 2^62
-abbrev pub EndsInTime : Item → Type 0
-EndsInTime (Segment msdb key bytes) = ⊤
-EndsInTime (Image set ci bytes) = (ci + 1) * length bytes ≤ 2 ^ 62
-EndsInTime (Range set ci at bytes) = ⊤
 
 -- an image is an interval of an area
 abbrev pub IsFitImage : List Place → Item → Type 0
@@ -53,18 +41,6 @@ pub record LiesWithin (w : Option Waiting) (at count : ℕ) : Type 0 where
   pub waiting : Waiting
   pub is : w ≡ Some waiting
   pub within : at + count ≤ length waiting.bytes
-
-abbrev pub IsAppliable : Held → Item → Type 0
-IsAppliable pool (Segment msdb key bytes) = ⊤
-IsAppliable pool (Image set ci bytes) = ⊤
-IsAppliable pool (Range set ci at bytes) = LiesWithin (pending_at pool set ci) at (length bytes)
-
--- this item is a range of the interval, which it can't be applied to
-abbrev pub IsWithoutImage : Held → Item → ℕ → ℕ → Type 0
-IsWithoutImage pool (Segment msdb key bytes) s k = ⊥
-IsWithoutImage pool (Image set ci bytes) s k = ⊥
-IsWithoutImage pool (Range set ci at bytes) s k =
-    (set ≡ s) × (ci ≡ k) × (¬ LiesWithin (pending_at pool set ci) at (length bytes))
 
 -- Each range lies within its interval, of which an image was applied before; `before` is the pool as the items begin.
 abbrev pub AreAppliable : ℕ → Held → List Item → Type 0

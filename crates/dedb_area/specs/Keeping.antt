@@ -6,22 +6,12 @@ use Rattle.fp_model.specs.Items.{items_of}
 use Rattle.fp_model.specs.State.{first_area_set}
 use Rattle.ci_pool.specs.declared.cell.Waiting.{Waiting}
 use Rattle.ci_pool.specs.Held.{Held, pending_at}
-use Rattle.area_redo.specs.Redo.{AreaBytes, Layout, RedoesThrough}
-use Rattle.area_redo.specs.Standing.{Way, since_mark, Owed, Stands, MayOpen}
+use Rattle.area_redo.specs.Redo.{AreaBytes, RedoesThrough}
+use Rattle.area_redo.specs.Standing.{Way, since_mark}
 use Rattle.area_staging.specs.Items.{is_imaged}
 use Rattle.area_states.specs.declared.place.Place.{Place}
 use Rattle.area_states.specs.Places.{layout_of, place_at}
 use Rattle.dedb_area.specs.Standing.{Holding, AreasStand, AreasMayOpen}
-
--- Calls that write no interval: areas that stand do so behind them, and the tail's items make their bytes of what a
--- crash leaves at each moment. Where a checkpoint may open it still may, and so do the items since its mark.
-pub record KeepsStanding (layout : Layout) (way : Way) (owed : Owed) (bytes : AreaBytes) (old new : Disk) : Type 0 where
-  pub stands : Stands layout way owed bytes old → Stands layout way owed bytes new
-  pub moments : Stands layout way owed bytes old → RedoesThrough layout (items_of way.tail) bytes old new
-  pub opening : Stands layout way owed bytes old → MayOpen layout way owed bytes old
-      → MayOpen layout way owed bytes new
-  pub opening_moments : Stands layout way owed bytes old → MayOpen layout way owed bytes old
-      → RedoesThrough layout (items_of (since_mark way)) bytes old new
 
 -- The same of calls that write intervals too, or read them.
 pub record KeepsAreas (way : Way) (bytes : AreaBytes) (old new : Disk) (before after : Holding) : Type 0 where
@@ -41,14 +31,6 @@ OnlyAreas = OnlyIn (λ set. first_area_set ≤ set)
 -- the data set of each area is durable
 abbrev pub AreDurable : List Place → Disk → Type 0
 AreDurable places disk = (set : ℕ) (place : Place) → place_at places set ≡ Some place → IsDurable disk set
-
--- Syncs of areas, whatever they answer: no contents change, what was durable stays so, and areas stand as before.
-pub record SyncsAreas (old new : Disk) : Type 0 where
-  pub contents : (set : ℕ) → new.contents set ≡ old.contents set
-  pub durable : (set : ℕ) → IsDurable old set → IsDurable new set
-  pub only : OnlyAreas old new
-  pub standing : (layout : Layout) (way : Way) (owed : Owed) (bytes : AreaBytes)
-      → KeepsStanding layout way owed bytes old new
 
 -- no interval has an item since the mark, and all else stays
 pub record IsMarked (before after : Holding) : Type 0 where

@@ -12,3 +12,4 @@ pub mod Purging
 pub mod Committing
 pub mod Dropping
 pub mod Leading
+pub mod inside

@@ -2,12 +2,12 @@
 use Rattle.std.specs.Prelude.{◌≡◌, ℕ, ◌+◌, ◌==◌, ◌&&◌, Bool, if◌then◌else◌, List, min, Option, Some, None}
 use Rattle.ci_space.specs.Interval.{IsInterval}
 use Rattle.fp_model.specs.declared.log.Item.{Item}
-use Rattle.ci_pool.specs.Held.{Held, pending_at, staged_at}
+use Rattle.ci_pool.specs.Held.{Held, staged_at}
 use Rattle.seq_dependents.specs.Control.{ChangesEnds, begin_in, end_in}
 use Rattle.area_states.specs.declared.place.Place.{Place}
 use Rattle.dedb_area.specs.Anchors.{CountsIntervals}
 use Rattle.dedb_area.specs.Control.{AreEnds}
-use Rattle.area_staging.specs.Items.{HasFlag, IsChange}
+use Rattle.area_staging.specs.Items.{IsChange}
 use Rattle.dedb_area.specs.Standing.{IsUnstaged}
 
 -- Begin moves up by n, at most to the end, and nothing else of control changes.
@@ -23,15 +23,6 @@ pub record MayPurge (place : Place) (control : List ℕ) : Type 0 where
 -- an area's intervals with other control
 abbrev pub with_control : List ℕ → (ℕ → List ℕ) → ℕ → List ℕ
 with_control control bytes ci = if ci == 0 then control else bytes ci
-
--- Where control has an item it is staged with these bytes, and has a flag; all else of the pool stays.
-abbrev pub IsControlStaged : ℕ → List ℕ → List (List Bool) → Held → Held → Option Item → Type 0
-IsControlStaged set control imaged before after None = after ≡ before
-IsControlStaged set control imaged before after (Some item) =
-    ((s k : ℕ) → staged_at after s k ≡ (if s == set && k == 0 then Some control else staged_at before s k))
-    × ((s k : ℕ) → pending_at after s k ≡ pending_at before s k)
-    × (after.clean ≡ before.clean)
-    × HasFlag imaged set 0
 
 -- where control has an item just control is staged, with these bytes, and else nothing is
 abbrev pub IsJustStaged : ℕ → List ℕ → Held → Option Item → Type 0

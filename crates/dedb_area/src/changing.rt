@@ -16,7 +16,8 @@ ghost use Rattle.area_staging.specs.Looking.{LooksAt};
 ghost use Rattle.area_staging.specs.Staging.{AllAtHand};
 ghost use Rattle.ci_pool.specs.Held.{SameAtHand};
 ghost use Rattle.dedb_area.specs.Anchors.{IsBegin};
-ghost use Rattle.dedb_area.specs.Committing.{ChangesOneSegment, FitsArea, HasRoomFor, IsChangedTo, OneChanged, committed};
+ghost use Rattle.dedb_area.specs.Committing.{committed};
+ghost use Rattle.dedb_area.specs.inside.Committing.{ChangesOneSegment, FitsArea, HasRoomFor, IsChangedTo, OneChanged};
 ghost use Rattle.dedb_area.specs.declared.fault.AreaFault.TheVariants as fault;
 
 use crate::AreaFault;

@@ -20,14 +20,17 @@ ghost use Rattle.area_states.specs.Changes.{IsInsertable, IsStorable, IsTooFull}
 ghost use Rattle.area_states.specs.Databases.{AreFor, state_of};
 ghost use Rattle.area_states.specs.Places.{ArePlaces, IsPlace, counted_by, has_anchor, place_at, places_of};
 ghost use Rattle.area_states.specs.States.{AreaState, HasState};
-ghost use Rattle.area_staging.specs.Changing.{AllBefore, AreStagedBy, IsFitFor, IsLeastOf, Stages, StagesItems};
+ghost use Rattle.area_staging.specs.Changing.{AreStagedBy, IsFitFor, IsLeastOf, Stages, StagesItems};
+ghost use Rattle.area_staging.specs.inside.Changing.{AllBefore};
 ghost use Rattle.area_staging.specs.Flags.{AreFlagged};
 ghost use Rattle.area_staging.specs.Items.{HasFlag, is_imaged};
 ghost use Rattle.area_staging.specs.Staging.{AllAtHand};
 ghost use Rattle.ci_pool.specs.Held.{SameAtHand};
-ghost use Rattle.dedb_area.specs.Anchors.{AreInTime, CountsIntervals, IsBegin, ShowsArea, ShowsAreas, intervals_of};
+ghost use Rattle.dedb_area.specs.Anchors.{AreInTime, CountsIntervals, IsBegin, intervals_of};
+ghost use Rattle.dedb_area.specs.inside.Anchors.{ShowsArea, ShowsAreas};
 ghost use Rattle.dedb_area.specs.Appending.{MayEnter, StagesInAreas};
-ghost use Rattle.dedb_area.specs.Committing.{AreStagedUpTo, ChangesOneSegment, ConcernedAreAtHand, FitAreas, FitsArea, FitsCommit, HasRoomFor, IsBeginIn, IsFirstFull, IsFitItem, IsLeast, MakesArea, MayStage, OneSegmentChanges, OnlyChanges, StagesAll, committed, has_change, has_insert, is_concerned};
+ghost use Rattle.dedb_area.specs.Committing.{ConcernedAreAtHand, FitsCommit, IsBeginIn, IsFitItem, IsLeast, MayStage, OnlyChanges, committed, has_change, has_insert, is_concerned};
+ghost use Rattle.dedb_area.specs.inside.Committing.{AreStagedUpTo, ChangesOneSegment, FitAreas, FitsArea, HasRoomFor, IsFirstFull, MakesArea, OneSegmentChanges, StagesAll};
 ghost use Rattle.dedb_area.specs.Standing.{AreasStand, IsUnstaged};
 ghost use Rattle.dedb_area.specs.declared.fault.AreaFault.TheVariants as fault;
 

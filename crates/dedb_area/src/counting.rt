@@ -7,7 +7,8 @@ ghost use Rattle.ci_space.specs.Head.{ends_of};
 ghost use Rattle.ci_overflow.specs.Places.{first_independent};
 ghost use Rattle.ci_pool.specs.Held.{SameAtHand, held_at};
 ghost use Rattle.area_states.specs.Places.{counted_by};
-ghost use Rattle.dedb_area.specs.Anchors.{CountsIntervals, ShowsArea};
+ghost use Rattle.dedb_area.specs.Anchors.{CountsIntervals};
+ghost use Rattle.dedb_area.specs.inside.Anchors.{ShowsArea};
 ghost use Rattle.area_staging.specs.Looking.{LooksAt};
 ghost use Rattle.dedb_area.specs.declared.fault.AreaFault.TheVariants as fault;
 

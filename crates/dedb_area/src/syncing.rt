@@ -5,7 +5,7 @@ ghost use Rattle.fp_site.specs.Disk.{IsDurable};
 ghost use Rattle.fp_site.specs.Site.{ReadsNothing};
 ghost use Rattle.fp_lists.specs.Faults.{Counts};
 ghost use Rattle.fp_model.specs.State.{first_area_set};
-ghost use Rattle.dedb_area.specs.Keeping.{SyncsAreas};
+ghost use Rattle.dedb_area.specs.inside.Keeping.{SyncsAreas};
 
 use fp_site::{Failed, Site};
 

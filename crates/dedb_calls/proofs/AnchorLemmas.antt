@@ -8,7 +8,8 @@ use Rattle.std.specs.List.Sorted.{IsPartitionedBy}
 use Rattle.fp_model.specs.declared.calls.AnchorChange.{AnchorChange}
 use Rattle.fp_model.specs.declared.database.Root.{Root}
 use Rattle.fp_model.specs.Workspace.{change_precedes, put_change}
-use Rattle.dedb_calls.specs.Anchors.{Ascend, IsEdited, IsPlaceOf, change_of, changes_in, held_at, is_anchor_of, stands_before}
+use Rattle.dedb_calls.specs.Anchors.{Ascend, change_of, changes_in, held_at, is_anchor_of, stands_before}
+use Rattle.dedb_calls.specs.inside.Anchors.{IsEdited, IsPlaceOf}
 use Rattle.dedb_calls.specs.declared.anchors.HeldAnchor.{HeldAnchor}
 
 pub not_both : true ≡ false → ⊥

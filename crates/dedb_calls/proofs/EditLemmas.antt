@@ -14,9 +14,11 @@ use Rattle.fp_model.specs.State.{roots_at}
 use Rattle.fp_model.specs.Texts.{same_text}
 use Rattle.fp_model.specs.Workspace.{DedbPosition, Workspace, no_dedb_position, put_change}
 use Rattle.dli_tree.specs.InOrder.{any_ends}
-use Rattle.dedb_calls.specs.Anchors.{IsEdited, Sees, changes_in, held_at}
-use Rattle.dedb_calls.specs.Inserts.{IsEditedTo}
-use Rattle.dedb_calls.specs.Progress.{DedbProgress, FitsDedb, GoesOn, held_in, position_in, with_position_at, with_progress}
+use Rattle.dedb_calls.specs.Anchors.{Sees, changes_in, held_at}
+use Rattle.dedb_calls.specs.inside.Anchors.{IsEdited}
+use Rattle.dedb_calls.specs.inside.Inserts.{IsEditedTo}
+use Rattle.dedb_calls.specs.Progress.{DedbProgress, FitsDedb, GoesOn, held_in, position_in, with_progress}
+use Rattle.dedb_calls.specs.inside.Progress.{with_position_at}
 use Rattle.dedb_calls.specs.declared.anchors.HeldAnchor.{HeldAnchor}
 use Rattle.dedb_calls.proofs.AnchorLemmas.{same_numbers, some_is}
 use Rattle.dedb_calls.proofs.SeenLemmas.{differ, get_other, get_set, length_set}

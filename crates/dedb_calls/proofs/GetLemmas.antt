@@ -21,10 +21,11 @@ use Rattle.state_laws.proofs.DedbReplies.{found_at}
 use Rattle.state_laws.proofs.Lists.{found_has}
 use Rattle.state_laws.proofs.Sequences.{IsSegment}
 use Rattle.dedb_calls.specs.Anchors.{Ascend, Sees, held_at}
-use Rattle.dedb_calls.specs.Calls.{is_locked, lacks_parent_at, place_found, refusal_of}
-use Rattle.dedb_calls.specs.Progress.{DedbProgress, FitsDedb, Knows, position_in, roots_in, with_position_at, with_progress}
+use Rattle.dedb_calls.specs.inside.Calls.{is_locked, lacks_parent_at, place_found, refusal_of}
+use Rattle.dedb_calls.specs.Progress.{DedbProgress, FitsDedb, Knows, position_in, with_progress}
+use Rattle.dedb_calls.specs.inside.Progress.{roots_in, with_position_at}
 use Rattle.dedb_calls.specs.Readiness.{ComesTo}
-use Rattle.dedb_calls.specs.Searches.{HasLooked, found_there, look_in}
+use Rattle.dedb_calls.specs.inside.Searches.{HasLooked, found_there, look_in}
 use Rattle.dedb_calls.specs.declared.anchors.HeldAnchor.{HeldAnchor}
 use Rattle.dedb_calls.specs.declared.ready.DedbReady.{DedbReady}
 use Rattle.dedb_calls.specs.declared.ready.DedbReady.TheVariants as ready

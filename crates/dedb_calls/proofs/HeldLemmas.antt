@@ -19,10 +19,11 @@ use Rattle.state_laws.specs.Edits.{FitsEdit, FitsEnd}
 use Rattle.key_order.proofs.Ascending.{same_is}
 use Rattle.state_laws.proofs.Roots.{edited_good}
 use Rattle.dedb_calls.specs.Anchors.{Ascend, Sees, held_at}
-use Rattle.dedb_calls.specs.Calls.{is_locked}
-use Rattle.dedb_calls.specs.Edits.{IsHeldSo, fits_key}
-use Rattle.dedb_calls.specs.Inserts.{IsEditedTo}
-use Rattle.dedb_calls.specs.Progress.{DedbProgress, FitsDedb, Knows, held_in, position_in, with_position_at, with_progress}
+use Rattle.dedb_calls.specs.inside.Calls.{is_locked}
+use Rattle.dedb_calls.specs.inside.Edits.{IsHeldSo, fits_key}
+use Rattle.dedb_calls.specs.inside.Inserts.{IsEditedTo}
+use Rattle.dedb_calls.specs.Progress.{DedbProgress, FitsDedb, Knows, held_in, position_in, with_progress}
+use Rattle.dedb_calls.specs.inside.Progress.{with_position_at}
 use Rattle.dedb_calls.specs.Readiness.{ComesTo}
 use Rattle.dedb_calls.specs.declared.anchors.HeldAnchor.{HeldAnchor}
 use Rattle.dedb_calls.specs.declared.ready.DedbReady.{DedbReady}

@@ -36,11 +36,12 @@ use Rattle.state_laws.proofs.Lists.{all_at, first_true, second_true}
 use Rattle.state_laws.proofs.Paths.{ends_fit, insert_direct}
 use Rattle.state_laws.proofs.Roots.{edited_good}
 use Rattle.dedb_calls.specs.Anchors.{Ascend, Sees, held_at}
-use Rattle.dedb_calls.specs.Calls.{is_locked}
-use Rattle.dedb_calls.specs.Inserts.{AreDirectOrNone, HasJudged, IsEditedTo, IsNewOf, with_queued}
-use Rattle.dedb_calls.specs.Progress.{DedbProgress, FitsDedb, GoesOn, Knows, position_in, roots_in, with_position_at, with_progress}
+use Rattle.dedb_calls.specs.inside.Calls.{is_locked}
+use Rattle.dedb_calls.specs.inside.Inserts.{AreDirectOrNone, HasJudged, IsEditedTo, IsNewOf, with_queued}
+use Rattle.dedb_calls.specs.Progress.{DedbProgress, FitsDedb, GoesOn, Knows, position_in, with_progress}
+use Rattle.dedb_calls.specs.inside.Progress.{roots_in, with_position_at}
 use Rattle.dedb_calls.specs.Readiness.{ComesTo}
-use Rattle.dedb_calls.specs.Searches.{HasRoots}
+use Rattle.dedb_calls.specs.inside.Searches.{HasRoots}
 use Rattle.dedb_calls.specs.declared.anchors.HeldAnchor.{HeldAnchor}
 use Rattle.dedb_calls.specs.declared.insert.Judged.TheVariants as judged
 use Rattle.dedb_calls.specs.declared.insert.NewSegment.{NewSegment}

@@ -8,12 +8,13 @@ use Rattle.fp_model.specs.declared.definitions.SegDef.{SegDef}
 use Rattle.fp_model.specs.DedbCalls.{first_found, first_unlocked}
 use Rattle.fp_model.specs.Order.{Occurrence, Place, Step, admits, first_admitted, lies_within, path_precedes, place_precedes, sequence}
 use Rattle.fp_model.specs.State.{numbers_up}
-use Rattle.dli_tree.specs.Paths.{path_steps, place_of}
+use Rattle.dli_tree.specs.Paths.{place_of}
+use Rattle.dli_tree.specs.inside.Paths.{path_steps}
 use Rattle.dli_tree.specs.declared.path.Path.{Path}
 use Rattle.dedb_calls.specs.Anchors.{held_at}
-use Rattle.dedb_calls.specs.Progress.{roots_in}
+use Rattle.dedb_calls.specs.inside.Progress.{roots_in}
 use Rattle.dedb_calls.specs.declared.anchors.HeldAnchor.{HeldAnchor}
-use Rattle.dedb_calls.specs.Searches.{behind_here, within_here}
+use Rattle.dedb_calls.specs.inside.Searches.{behind_here, within_here}
 
 not_both : true ≡ false → ⊥
 not_both e = cc

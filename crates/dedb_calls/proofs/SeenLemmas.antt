@@ -21,8 +21,9 @@ use Rattle.dli_tree.specs.InOrder.{AreTypes, any_ends, are_in_order}
 use Rattle.state_laws.specs.Workspaces.{FitsPlace}
 use Rattle.state_laws.proofs.Sequences.{IsSegment, anchor_shows}
 use Rattle.dedb_calls.specs.Anchors.{Ascend, Sees, change_of, changes_in, held_at, is_anchor_of}
-use Rattle.dedb_calls.specs.Progress.{DedbProgress, FitsDedb, GoesOn, position_in, roots_in, with_position_at, with_progress}
-use Rattle.dedb_calls.specs.Calls.{SaysNot, ShowsWhole}
+use Rattle.dedb_calls.specs.Progress.{DedbProgress, FitsDedb, GoesOn, position_in, with_progress}
+use Rattle.dedb_calls.specs.inside.Progress.{roots_in, with_position_at}
+use Rattle.dedb_calls.specs.inside.Calls.{SaysNot, ShowsWhole}
 use Rattle.dedb_calls.specs.Readiness.{IfAnswer, OnNeed}
 use Rattle.dedb_calls.specs.declared.anchors.HeldAnchor.{HeldAnchor}
 use Rattle.dedb_calls.specs.declared.ready.DedbReady.{DedbReady}

@@ -1,11 +1,9 @@
 -- The anchors that a transaction holds, with their roots as it sees them: in order of database and anchor, each once.
-use Rattle.std.specs.Prelude.{◌≡◌, ⊤, ℕ, List, [], ◌∷◌, length, Bool, true, false, ◌&&◌, ◌||◌, ◌==◌, nat_lt, if◌then◌else◌, Option, Some, find}
-use Rattle.std.specs.List.{AllByRecursion, AllWithin}
+use Rattle.std.specs.Prelude.{◌≡◌, ⊤, ℕ, List, [], ◌∷◌, Bool, true, false, ◌&&◌, ◌||◌, ◌==◌, nat_lt, if◌then◌else◌, Option, Some, find}
+use Rattle.std.specs.List.{AllByRecursion}
 use Rattle.fp_model.specs.declared.calls.AnchorChange.{AnchorChange}
 use Rattle.fp_model.specs.declared.database.Db.{Db}
-use Rattle.fp_model.specs.declared.database.Root.{Root}
 use Rattle.fp_model.specs.State.{roots_at}
-use Rattle.fp_model.specs.Workspace.{put_change}
 use Rattle.dedb_calls.specs.declared.anchors.HeldAnchor.{HeldAnchor}
 
 -- it stands before an anchor: by database, then by number
@@ -37,17 +35,3 @@ abbrev pub Sees : Db → List HeldAnchor → Type 0
 Sees db anchors =
     (dedb anchor : ℕ) (a : HeldAnchor) → held_at anchors dedb anchor ≡ Some a → a.is_changed ≡ false
     → roots_at db dedb anchor ≡ a.roots
-
--- the anchor's place among them: those in front stand before it, and those from there on don't
-abbrev pub IsPlaceOf : ℕ → ℕ → List HeldAnchor → ℕ → Type 0
-IsPlaceOf dedb anchor anchors n =
-    AllWithin (λ a. stands_before dedb anchor a ≡ true) anchors 0 n
-    × AllWithin (λ a. stands_before dedb anchor a ≡ false) anchors n (length anchors)
-
--- what an edit leaves: other roots at the anchor, which count as changed
-pub record IsEdited (dedb anchor : ℕ) (roots : List Root) (old new : List HeldAnchor) : Type 0 where
-  pub order : Ascend new
-  pub there : held_at new dedb anchor
-      ≡ Some (record { dedb = dedb; anchor = anchor; roots = roots; is_changed = true })
-  pub others : (d a : ℕ) → (d == dedb && a == anchor) ≡ false → held_at new d a ≡ held_at old d a
-  pub changes : changes_in new ≡ put_change (record { dedb = dedb; anchor = anchor; roots = roots }) (changes_in old)

@@ -1,8 +1,5 @@
 pub mod Anchors
-pub mod Arguments
 pub mod Calls
-pub mod Edits
-pub mod Inserts
 pub mod Progress
 pub mod Readiness
-pub mod Searches
+pub mod inside

@@ -1,12 +1,10 @@
 -- What contracts see of a transaction under way, as far as it has to do with data entry databases.
-use Rattle.std.specs.Prelude.{◌≡◌, ℕ, ◌<◌, List, [], true, false, ◌==◌, if◌then◌else◌, Option, Some, None, is_some, length, slice_get, slice_set, unwrap_or}
-use Rattle.std.specs.Option.{option_map_or}
+use Rattle.std.specs.Prelude.{◌≡◌, ℕ, ◌<◌, List, true, false, ◌==◌, if◌then◌else◌, Option, Some, None, is_some, length, slice_get, unwrap_or}
 use Rattle.fp_model.specs.declared.calls.Mode.{Mode}
 use Rattle.fp_model.specs.declared.calls.Resource.{Resource}
 use Rattle.fp_model.specs.declared.calls.Resource.TheVariants.{Anchor}
 use Rattle.fp_model.specs.declared.calls.SeqInsert.{SeqInsert}
 use Rattle.fp_model.specs.declared.database.Db.{Db}
-use Rattle.fp_model.specs.declared.database.Root.{Root}
 use Rattle.fp_model.specs.declared.definitions.DedbDef.{DedbDef}
 use Rattle.fp_model.specs.Order.{Place}
 use Rattle.fp_model.specs.Shape.{is_anchor}
@@ -33,12 +31,6 @@ position_in work dedb = unwrap_or (slice_get work.positions dedb) no_dedb_positi
 -- the place that is held in a database
 abbrev pub held_in : DedbProgress → ℕ → Option Place
 held_in work dedb = if (position_in work dedb).held then (position_in work dedb).place else None
-
-abbrev pub roots_in : List HeldAnchor → ℕ → ℕ → List Root
-roots_in anchors dedb anchor = option_map_or (λ a. a.roots) (held_at anchors dedb anchor) []
-
-abbrev pub with_position_at : ℕ → DedbPosition → DedbProgress → DedbProgress
-with_position_at dedb p work = record work { positions = slice_set work.positions dedb p }
 
 -- The transaction has the roots of each anchor that is locked so.
 abbrev pub Knows : (Resource → Option Mode) → List HeldAnchor → Type 0

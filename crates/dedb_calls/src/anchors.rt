@@ -1,5 +1,6 @@
 //! The anchors that a transaction holds, with their roots as it sees them.
-ghost use Rattle.dedb_calls.specs.Anchors.{Ascend, IsEdited, IsPlaceOf, changes_in, held_at, is_anchor_of, stands_before};
+ghost use Rattle.dedb_calls.specs.Anchors.{Ascend, changes_in, held_at, is_anchor_of, stands_before};
+ghost use Rattle.dedb_calls.specs.inside.Anchors.{IsEdited, IsPlaceOf};
 ghost use Rattle.dli_tree.specs.Changes.{edit_of};
 ghost use Rattle.dli_tree.specs.InOrder.{AreTypes, are_in_order};
 ghost use Rattle.dli_tree.specs.Paths.{steps_of};

@@ -1,6 +1,6 @@
 //! Segment search arguments: what gets and inserts may name.
-ghost use Rattle.dedb_calls.specs.Arguments.{named_step};
-ghost use Rattle.dedb_calls.specs.Calls.{SaysNot};
+ghost use Rattle.dedb_calls.specs.inside.Arguments.{named_step};
+ghost use Rattle.dedb_calls.specs.inside.Calls.{SaysNot};
 ghost use Rattle.dli_tree.specs.Paths.{step_of, steps_of};
 ghost use Rattle.fp_model.specs.DedbCalls.{are_descending, are_get_arguments, are_insert_arguments, insert_path, is_qualified, not_found, only_last_unqualified, root_named, type_of_last};
 ghost use Rattle.fp_model.specs.Order.{is_ancestor, is_sequential, line_within};

@@ -1,8 +1,8 @@
 //! Replacements and deletions of the segment that is held.
 ghost use Rattle.dedb_calls.specs.Anchors.{Ascend, held_at};
-ghost use Rattle.dedb_calls.specs.Calls.{is_locked};
-ghost use Rattle.dedb_calls.specs.Edits.{HasChosen, fits_key};
-ghost use Rattle.dedb_calls.specs.Inserts.{IsEditedTo};
+ghost use Rattle.dedb_calls.specs.inside.Calls.{is_locked};
+ghost use Rattle.dedb_calls.specs.inside.Edits.{HasChosen, fits_key};
+ghost use Rattle.dedb_calls.specs.inside.Inserts.{IsEditedTo};
 ghost use Rattle.dedb_calls.specs.Progress.{FitsDedb, GoesOn, Knows, held_in, position_in};
 ghost use Rattle.dedb_calls.specs.Readiness.{ComesTo, OnNeed};
 ghost use Rattle.dedb_calls.specs.declared.anchors.HeldAnchor.{HeldAnchor as HeldOf};

@@ -1,9 +1,10 @@
 //! Gets: the search, and what becomes of the transaction.
 ghost use Rattle.dedb_calls.specs.Anchors.{Ascend};
-ghost use Rattle.dedb_calls.specs.Calls.{SaysNot, ShowsWhole, is_locked, lacks_parent_at, place_found, refusal_of};
-ghost use Rattle.dedb_calls.specs.Progress.{FitsDedb, GoesOn, Knows, position_in, with_position_at};
+ghost use Rattle.dedb_calls.specs.inside.Calls.{SaysNot, ShowsWhole, is_locked, lacks_parent_at, place_found, refusal_of};
+ghost use Rattle.dedb_calls.specs.Progress.{FitsDedb, GoesOn, Knows, position_in};
+ghost use Rattle.dedb_calls.specs.inside.Progress.{with_position_at};
 ghost use Rattle.dedb_calls.specs.Readiness.{ComesTo, IfAnswer, OnNeed};
-ghost use Rattle.dedb_calls.specs.Searches.{HasLooked, found_there, look_in, numbers_in};
+ghost use Rattle.dedb_calls.specs.inside.Searches.{HasLooked, found_there, look_in, numbers_in};
 ghost use Rattle.dedb_calls.specs.declared.ready.DedbReady.TheVariants as ready;
 ghost use Rattle.dli_tree.specs.Paths.{steps_of};
 ghost use Rattle.fp_model.specs.Answers.{answered, showing};

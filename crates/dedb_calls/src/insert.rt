@@ -1,8 +1,9 @@
 //! Inserts: of a direct segment among its twins, and of a sequential one into the queue.
 ghost use Rattle.dedb_calls.specs.Anchors.{Ascend, held_at};
-ghost use Rattle.dedb_calls.specs.Calls.{is_locked};
-ghost use Rattle.dedb_calls.specs.Inserts.{AreDirectOrNone, HasJudged, IsEditedTo, IsInsert, IsNewOf, with_queued};
-ghost use Rattle.dedb_calls.specs.Progress.{FitsDedb, GoesOn, Knows, position_in, roots_in};
+ghost use Rattle.dedb_calls.specs.inside.Calls.{is_locked};
+ghost use Rattle.dedb_calls.specs.inside.Inserts.{AreDirectOrNone, HasJudged, IsEditedTo, IsInsert, IsNewOf, with_queued};
+ghost use Rattle.dedb_calls.specs.Progress.{FitsDedb, GoesOn, Knows, position_in};
+ghost use Rattle.dedb_calls.specs.inside.Progress.{roots_in};
 ghost use Rattle.dedb_calls.specs.Readiness.{ComesTo, OnNeed};
 ghost use Rattle.dedb_calls.specs.declared.anchors.HeldAnchor.{HeldAnchor as HeldOf};
 ghost use Rattle.dedb_calls.specs.declared.ready.DedbReady.TheVariants as ready;

@@ -1,10 +1,12 @@
 //! The search of a get over the anchors of a database.
 ghost use Rattle.dedb_calls.specs.Anchors.{Ascend, held_at};
-ghost use Rattle.dedb_calls.specs.Progress.{Knows, roots_in};
-ghost use Rattle.dedb_calls.specs.Searches.{HasLooked, HasRoots, behind_here, numbers_in, within_here};
+ghost use Rattle.dedb_calls.specs.Progress.{Knows};
+ghost use Rattle.dedb_calls.specs.inside.Progress.{roots_in};
+ghost use Rattle.dedb_calls.specs.inside.Searches.{HasLooked, HasRoots, behind_here, numbers_in, within_here};
 ghost use Rattle.dedb_calls.specs.declared.anchors.HeldAnchor.{HeldAnchor as HeldOf};
 ghost use Rattle.dli_tree.specs.InOrder.{AreTypes, are_in_order};
-ghost use Rattle.dli_tree.specs.Paths.{occurrence_of, path_steps};
+ghost use Rattle.dli_tree.specs.Paths.{occurrence_of};
+ghost use Rattle.dli_tree.specs.inside.Paths.{path_steps};
 ghost use Rattle.fp_model.specs.Answers.{serves};
 ghost use Rattle.fp_model.specs.Order.{first_admitted};
 ghost use Rattle.fp_model.specs.declared.calls.Resource.TheVariants.{Anchor};

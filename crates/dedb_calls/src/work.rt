@@ -1,6 +1,8 @@
 //! What a transaction keeps of data entry databases until it commits.
-ghost use Rattle.dedb_calls.specs.Anchors.{Ascend, IsEdited, Sees, changes_in, held_at};
-ghost use Rattle.dedb_calls.specs.Progress.{IsDedbWorkOf, held_in, position_in, with_position_at};
+ghost use Rattle.dedb_calls.specs.Anchors.{Ascend, Sees, changes_in, held_at};
+ghost use Rattle.dedb_calls.specs.inside.Anchors.{IsEdited};
+ghost use Rattle.dedb_calls.specs.Progress.{IsDedbWorkOf, held_in, position_in};
+ghost use Rattle.dedb_calls.specs.inside.Progress.{with_position_at};
 ghost use Rattle.dedb_calls.specs.declared.anchors.HeldAnchor.{HeldAnchor as HeldOf};
 ghost use Rattle.dli_tree.specs.Changes.{edit_of};
 ghost use Rattle.dli_tree.specs.InOrder.{AreTypes, any_ends, are_in_order};

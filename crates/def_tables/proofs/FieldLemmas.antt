@@ -8,7 +8,7 @@ use Rattle.fp_model.specs.declared.definitions.FieldKind.{FieldKind}
 use Rattle.fp_model.specs.declared.definitions.FieldKind.TheVariants.{C, X, H, F, P}
 use Rattle.fp_model.specs.WellFormed.{is_field_length}
 use Rattle.def_tables.specs.Values.{each, as_field_name, as_kind, length_for, as_length, triple_in, as_triple, as_triples}
-use Rattle.def_tables.specs.Fields.{IsShort}
+use Rattle.def_tables.specs.inside.Fields.{IsShort}
 use Rattle.def_tables.specs.declared.fields.Triple.{Triple}
 use Rattle.def_tables.proofs.ValueSteps.{some_step, each_has}
 

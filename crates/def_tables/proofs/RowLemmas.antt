@@ -5,7 +5,8 @@ use Rattle.toml.specs.Data.{Data}
 use Rattle.toml.specs.View.{items_of, items_view, view}
 use Rattle.toml.specs.declared.value.Value.{Value}
 use Rattle.fp_model.specs.declared.definitions.FieldDef.{FieldDef}
-use Rattle.def_tables.specs.Values.{Appends, field_in, segment_in}
+use Rattle.def_tables.specs.Values.{field_in, segment_in}
+use Rattle.def_tables.specs.inside.Values.{Appends}
 use Rattle.fp_model.specs.Values.{◌>>=◌}
 use Rattle.def_tables.proofs.Loops.{onto}
 

@@ -1,5 +1,5 @@
 -- The fields of a segment.
-use Rattle.std.specs.Prelude.{◌≤◌, ℕ, pos, ◌+◌, List, [], ◌∷◌, length, map, sum_by, Bool, true, false, not, ◌&&◌, nat_le, if◌then◌else◌, Result, Ok, Err, codes, ⊤}
+use Rattle.std.specs.Prelude.{ℕ, pos, ◌+◌, List, [], ◌∷◌, length, map, sum_by, Bool, true, false, not, ◌&&◌, nat_le, if◌then◌else◌, Result, Ok, Err, codes, ⊤}
 use Rattle.toml.specs.Data.{Members}
 use Rattle.fp_model.specs.declared.definitions.FieldKind.{FieldKind}
 use Rattle.fp_model.specs.declared.definitions.FieldKind.TheVariants.{C, X, H, F, P}
@@ -48,10 +48,3 @@ fields_at key_wanted most members = do
   _ ← within (codes "fields") 0 most (pos (total triples))
   _ ← all_once (map (λ t. t.name.0) triples)
   Ok (record { fields = laid_out 0 triples; length = total triples })
-
--- ---- no part of what a text means: a condition of a function that lays fields out
-
--- from 1 to 1,024 bytes, as a field of any kind has
-pub record IsShort (t : Triple) : Type 0 where
-  pub some : 1 ≤ t.length
-  pub few : t.length ≤ 1024

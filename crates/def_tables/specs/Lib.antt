@@ -3,3 +3,4 @@ pub mod Values
 pub mod Keys
 pub mod Fields
 pub mod Loads
+pub mod inside

@@ -1,5 +1,5 @@
 -- What a value of a document is in the definitions: a name, an exit, tables, a field, a row of texts.
-use Rattle.std.specs.Prelude.{◌≡◌, ℕ, ℤ, pos, negsuc, neg_ℤ, ◌-◌, List, [], ◌∷◌, ◌++◌, length, map, Bool, true, false, ◌&&◌, ◌||◌, ◌==◌, nat_le, if◌then◌else◌, Option, Some, None, codes}
+use Rattle.std.specs.Prelude.{ℕ, ℤ, pos, negsuc, neg_ℤ, ◌-◌, List, [], ◌∷◌, ◌++◌, length, map, Bool, ◌&&◌, ◌||◌, ◌==◌, nat_le, if◌then◌else◌, Option, Some, None, codes}
 use Rattle.std.specs.List.{list_all}
 use Rattle.std.specs.Option.{option_map}
 use Rattle.std.specs.Str.{all_ascii_digits}
@@ -164,12 +164,3 @@ unfoldable pub as_segments : List FieldDef → Data → Option (List (List ℕ))
 as_segments fields value = do
   rows ← as_array value
   each (as_segment fields) rows
-
--- ---- no part of what a text means: what functions that put bytes at the end promise
-
--- Bytes that are put at the end: those of a value, where there are some, and then the answer is true.
-abbrev pub Appends : Bool → List ℕ → List ℕ → Option (List ℕ) → Type 0
-Appends true old new (Some bytes) = new ≡ old ++ bytes
-Appends false old new None = Unit {0}
-Appends true old new None = ⊥
-Appends false old new (Some bytes) = ⊥

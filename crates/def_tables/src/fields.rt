@@ -8,7 +8,8 @@ ghost use Rattle.toml.specs.View.{view, array_view, table_view};
 ghost use Rattle.def_tables.specs.Readings.{Gives, or_fault};
 ghost use Rattle.def_tables.specs.Values.{each, as_field_name, as_kind, as_length, triple_in, as_triple, as_triples};
 ghost use Rattle.def_tables.specs.Keys.{all_once};
-ghost use Rattle.def_tables.specs.Fields.{IsShort, keyed, laid_out, total, fields_at};
+ghost use Rattle.def_tables.specs.Fields.{keyed, laid_out, total, fields_at};
+ghost use Rattle.def_tables.specs.inside.Fields.{IsShort};
 ghost use Rattle.def_tables.specs.declared.fault.DefsFault.TheVariants as faults;
 
 use crate::fault::{DefsFault, bad_field};

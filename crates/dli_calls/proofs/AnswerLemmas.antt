@@ -19,7 +19,7 @@ use Rattle.fp_model.specs.Workspace.{Workspace}
 use Rattle.dli_calls.specs.declared.answering.Ready.{Ready}
 use Rattle.dli_calls.specs.declared.answering.Ready.TheVariants as ready
 use Rattle.dli_calls.specs.Readiness.{IfAnswer}
-use Rattle.dli_calls.specs.Replies.{ShowsFound}
+use Rattle.dli_calls.specs.inside.Replies.{ShowsFound}
 
 pub if_answer : (P Q : Answer → Type 0) (r : Ready) → IfAnswer r P → ((answer : Answer) → P answer → Q answer)
     → IfAnswer r Q

@@ -5,7 +5,8 @@ use Rattle.dedb_calls.specs.Readiness as dedbs
 use Rattle.dedb_calls.specs.declared.ready.DedbReady.{DedbReady}
 use Rattle.dedb_calls.specs.declared.ready.DedbReady.TheVariants as dedb
 use Rattle.fp_model.specs.Answers.{Needed}
-use Rattle.dli_calls.specs.Readiness.{IfAnswer, needed_in, ready_in}
+use Rattle.dli_calls.specs.Readiness.{IfAnswer, needed_in}
+use Rattle.dli_calls.specs.inside.Readiness.{ready_in}
 use Rattle.dli_calls.specs.declared.answering.Ready.{Ready}
 
 pub needs_in : (n : ℕ) (came : DedbReady) (ready : Ready) (needed : Option Needed) → ready ≡ ready_in n came

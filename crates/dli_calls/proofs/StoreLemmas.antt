@@ -10,7 +10,7 @@ use Rattle.fp_model.specs.declared.definitions.MsdbDef.{MsdbDef}
 use Rattle.fp_model.specs.State.{segment_after, segment_of}
 use Rattle.msdb_store.specs.Store.{found, found_after}
 use Rattle.dli_calls.specs.declared.database.Database.{Database}
-use Rattle.dli_calls.specs.Replies.{IsDatabase, segments_in}
+use Rattle.dli_calls.specs.inside.Replies.{IsDatabase, segments_in}
 
 -- a database of the store
 record Stands (msdbs : List Msdb) (n : ℕ) (def : MsdbDef) : Type 0 where

@@ -23,7 +23,7 @@ use Rattle.dli_calls.specs.declared.reply.Change.TheVariants as change
 use Rattle.dli_calls.specs.Progress.{FitsPosition, IsWorkOf, Progress, dedbs_in}
 use Rattle.segment_keys.specs.Keys.{is_among}
 use Rattle.dli_calls.specs.Targets.{LeavesDedbs}
-use Rattle.dli_calls.specs.Replies.{FitsChange, FitsQueue, mark_in, mark_of, own_behind}
+use Rattle.dli_calls.specs.inside.Replies.{FitsChange, FitsQueue, mark_in, mark_of, own_behind}
 use Rattle.segment_keys.specs.Keys.{is_marked}
 
 -- ---- positions

@@ -1,4 +1,4 @@
 pub mod Progress
 pub mod Readiness
-pub mod Replies
 pub mod Targets
+pub mod inside

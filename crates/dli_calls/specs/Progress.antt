@@ -1,5 +1,5 @@
 -- What contracts see of a transaction under way.
-use Rattle.std.specs.Prelude.{ℕ, ◌≡◌, List, [], ◌∷◌, ◌++◌, Bool, Option, Some, None, IfSome, slice_get}
+use Rattle.std.specs.Prelude.{ℕ, ◌≡◌, List, Some, IfSome, slice_get}
 use Rattle.std.specs.List.{AllByRecursion, AllZip}
 use Rattle.fp_model.specs.declared.definitions.Defs.{Defs}
 use Rattle.fp_model.specs.declared.definitions.MsdbDef.{MsdbDef}
@@ -40,8 +40,3 @@ pub record IsWorkOf (defs : Defs) (work : Progress) : Type 0 where
       → is_among work.changed (Segment msdb key) ≡ is_put_or_dropped def msdb work.own key
   pub dedbs : IsDedbWorkOf defs.dedbs (dedbs_in work)
   pub edits : work.own.changes ≡ changes_in work.anchors
-
--- with one more note, if there is one
-abbrev pub noted : Option ℕ → List ℕ → List ℕ
-noted None notes = notes
-noted (Some count) notes = notes ++ count ∷ []

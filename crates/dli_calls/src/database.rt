@@ -2,7 +2,7 @@
 ghost use Rattle.std.specs.Option.{option_copied};
 ghost use Rattle.std.specs.Prelude.{◌≡◌, IfSome, length};
 ghost use Rattle.fp_model.specs.State.{key_of, segment_after, segment_of};
-ghost use Rattle.dli_calls.specs.Replies.{IsDatabase, segments_in};
+ghost use Rattle.dli_calls.specs.inside.Replies.{IsDatabase, segments_in};
 
 use fp_model::{MsdbDef, key_of};
 use msdb_store::MsdbStore;

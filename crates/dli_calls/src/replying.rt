@@ -8,7 +8,7 @@ ghost use Rattle.fp_model.specs.declared.calls.Get.TheVariants as get;
 ghost use Rattle.fp_model.specs.Texts.{same_text, trimmed};
 ghost use Rattle.fp_model.specs.Workspace.{Workspace};
 ghost use Rattle.dli_calls.specs.Progress.{FitsPosition};
-ghost use Rattle.dli_calls.specs.Replies.{FitsChange, IsDatabase, ShowsFound, ShowsSegment, is_changed, replied_by, segments_in};
+ghost use Rattle.dli_calls.specs.inside.Replies.{FitsChange, IsDatabase, ShowsFound, ShowsSegment, is_changed, replied_by, segments_in};
 
 use crate::database::{Database, key_in};
 use crate::letters::letters_on;

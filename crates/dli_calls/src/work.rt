@@ -13,9 +13,10 @@ ghost use Rattle.fp_model.specs.declared.database.Db.{Db as DbOf};
 ghost use Rattle.fp_model.specs.declared.definitions.DedbDef.{DedbDef as DedbOf};
 ghost use Rattle.fp_model.specs.declared.definitions.Defs.{Defs as DefsOf};
 ghost use Rattle.segment_keys.specs.Keys.{resource_of};
-ghost use Rattle.dli_calls.specs.Progress.{IsWorkOf, dedbs_in, noted};
+ghost use Rattle.dli_calls.specs.Progress.{IsWorkOf, dedbs_in};
+ghost use Rattle.dli_calls.specs.inside.Progress.{noted};
 ghost use Rattle.segment_keys.specs.Keys.{is_among};
-ghost use Rattle.dli_calls.specs.Replies.{mark_in, mark_of, own_behind};
+ghost use Rattle.dli_calls.specs.inside.Replies.{mark_in, mark_of, own_behind};
 ghost use Rattle.segment_keys.specs.Keys.{is_marked};
 
 use crate::database::key_in;

@@ -9,7 +9,7 @@ use Rattle.fp_model.specs.declared.definitions.SegDef.{SegDef}
 use Rattle.fp_model.specs.Order.{Occurrence, Step, admits, ends_in, last_type, line_to, line_within, parent_of, stands_in}
 use Rattle.fp_model.specs.Texts.{same_text}
 use Rattle.fp_model.specs.WellFormed.{HavePlaces}
-use Rattle.dli_tree.specs.Aims.{agrees, can_be_met, can_stand, ends_below, ends_here, fits}
+use Rattle.dli_tree.specs.inside.Aims.{agrees, can_be_met, can_stand, ends_below, ends_here, fits}
 use Rattle.key_order.proofs.Ascending.{first_of, not_both, second_of}
 use Rattle.dli_tree.proofs.Entering.{false_and}
 use Rattle.dli_tree.proofs.Lines.{IsFrom, IsLine, end_from, ends_are, first_stands, parent_less, stands_on}

@@ -17,7 +17,7 @@ use Rattle.std.proofs.lemmas.Option.{get_or_from_slice_get, slice_get-get_or}
 use Rattle.std.proofs.lemmas.List.Quantifiers.{position-Some}
 use Rattle.dli_tree.specs.Paths.{step_of, steps_of}
 use Rattle.dli_tree.specs.declared.path.Step.{Step as StepOf}
-use Rattle.dli_tree.specs.Changes.{IsPlaced, IsWithin, twins_edited}
+use Rattle.dli_tree.specs.inside.Changes.{IsPlaced, IsWithin, twins_edited}
 use Rattle.dli_tree.specs.InOrder.{are_in_order}
 use Rattle.dli_tree.specs.Descents.{leads_below, leads_to, twin_of}
 use Rattle.dli_tree.specs.declared.place.Place.{Place}

@@ -7,7 +7,7 @@ use Rattle.fp_model.specs.declared.calls.Ssa.{Ssa}
 use Rattle.fp_model.specs.Order.{Occurrence, Step, one_down, path_precedes, is_proper_prefix, same_step, step_precedes, under}
 use Rattle.dli_tree.specs.declared.aim.Aim.{Aim}
 use Rattle.dli_tree.specs.Paths.{steps_of}
-use Rattle.dli_tree.specs.Aims.{Search, agrees, aim_of, ends_below, ends_here, entered, inside_step, is_inside, is_past, looks_for, past_step, wants}
+use Rattle.dli_tree.specs.inside.Aims.{Search, agrees, aim_of, ends_below, ends_here, entered, inside_step, is_inside, is_past, looks_for, past_step, wants}
 
 -- ---- nothing stands before or within a path of no steps
 

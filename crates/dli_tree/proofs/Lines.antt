@@ -10,7 +10,7 @@ use Rattle.fp_model.specs.declared.database.Node.TheOpen.{Node-F}
 use Rattle.fp_model.specs.declared.definitions.SegDef.{SegDef}
 use Rattle.fp_model.specs.Order.{Occurrence, Step, at_end, child_types, direct, is_child_of, key_in, last_type, line_to, line_within, node_order, node_step, numbers_from, one_down, parent_of, rows_in_order, under}
 use Rattle.fp_model.specs.WellFormed.{HasPlace, HavePlaces}
-use Rattle.dli_tree.specs.Aims.{Search, agrees, ends_below, ends_here, is_inside, is_past, leads_on, looks_for, wants}
+use Rattle.dli_tree.specs.inside.Aims.{Search, agrees, ends_below, ends_here, is_inside, is_past, leads_on, looks_for, wants}
 use Rattle.key_order.proofs.Ascending.{none_is_not_some, not_both, some_is}
 use Rattle.dli_tree.proofs.Entering.{false_and}
 use Rattle.dli_tree.proofs.Positions.{any_before, any_last, is_equal, line_here}

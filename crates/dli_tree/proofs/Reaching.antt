@@ -7,11 +7,11 @@ use Rattle.fp_model.specs.declared.calls.Ssa.{Ssa}
 use Rattle.fp_model.specs.Order.{Occurrence, Step, direct, same_step, step_precedes}
 use Rattle.fp_model.specs.State.{ascend, is_below}
 use Rattle.fp_model.specs.Texts.{same_text}
-use Rattle.dli_tree.specs.Aims.{Search, agrees, entered, fits, inside_step, past_step}
+use Rattle.dli_tree.specs.inside.Aims.{Search, agrees, entered, fits, inside_step, past_step}
 use Rattle.dli_tree.specs.Paths.{step_of, steps_of}
 use Rattle.dli_tree.specs.declared.path.Step.{Step as StepOf}
 use Rattle.key_order.specs.Places.{IsPlace}
-use Rattle.dli_tree.specs.Reaches.{IsLeft}
+use Rattle.dli_tree.specs.inside.Reaches.{IsLeft}
 use Rattle.key_order.proofs.Ascending.{IsAscending, all_above, all_at, below_differs, below_trans, differs_back, not_above, not_below_itself, not_both, same_is, tail_ascends}
 use Rattle.dli_tree.proofs.Entering.{false_and}
 

@@ -19,13 +19,14 @@ use Rattle.fp_model.specs.Shape.{are_newest_first, are_rows, has_length, have_le
 use Rattle.fp_model.specs.State.{ascend, is_below}
 use Rattle.fp_model.specs.Texts.{same_text}
 use Rattle.fp_model.specs.WellFormed.{HavePlaces}
-use Rattle.dli_tree.specs.Aims.{Search, aim_of, agrees, can_be_met, ends_below, ends_here, entered, is_inside, is_past, looks_for, wants}
+use Rattle.dli_tree.specs.inside.Aims.{Search, aim_of, agrees, can_be_met, ends_below, ends_here, entered, is_inside, is_past, looks_for, wants}
 use Rattle.dli_tree.specs.declared.aim.Aim.{Aim}
 use Rattle.dli_tree.specs.declared.path.Path.{Path}
 use Rattle.dli_tree.specs.declared.path.Step.{Step as StepOf}
 use Rattle.dli_tree.specs.InOrder.{any_ends, are_in_order}
-use Rattle.dli_tree.specs.Paths.{occurrence_of, path_steps, place_of, step_of, steps_of}
-use Rattle.dli_tree.specs.Reaches.{IsLeft}
+use Rattle.dli_tree.specs.Paths.{occurrence_of, place_of, step_of, steps_of}
+use Rattle.dli_tree.specs.inside.Paths.{path_steps}
+use Rattle.dli_tree.specs.inside.Reaches.{IsLeft}
 use Rattle.dli_tree.proofs.Admitting.{admitted, not_admitted}
 use Rattle.key_order.proofs.Ascending.{all_at, first_of, none_is_not_some, not_both, second_of, some_is}
 use Rattle.dli_tree.proofs.Entering.{false_and, find_under, found_below, none_behind, none_within, wants_down}

@@ -15,11 +15,11 @@ use Rattle.fp_model.specs.Order.{Occurrence, Step, at_end, child_types, direct, 
 use Rattle.fp_model.specs.Shape.{Seen, are_rows, has_length, is_row, seen_as, seen_step}
 use Rattle.fp_model.specs.State.{ascend}
 use Rattle.fp_model.specs.WellFormed.{HavePlaces}
-use Rattle.dli_tree.specs.Aims.{Search, agrees, aim_of, ends_below, ends_here, entered, is_inside, is_past, leads_on, looks_for, wants}
+use Rattle.dli_tree.specs.inside.Aims.{Search, agrees, aim_of, ends_below, ends_here, entered, is_inside, is_past, leads_on, looks_for, wants}
 use Rattle.dli_tree.specs.declared.aim.Aim.{Aim}
 use Rattle.dli_tree.specs.declared.path.Path.{Path}
 use Rattle.dli_tree.specs.Paths.{occurrence_of}
-use Rattle.dli_tree.specs.Reaches.{IsLeft}
+use Rattle.dli_tree.specs.inside.Reaches.{IsLeft}
 use Rattle.key_order.proofs.Ascending.{all_at, first_of, none_is_not_some, not_both, second_of, stands_there}
 use Rattle.dli_tree.proofs.Entering.{false_and, find_under, found_below}
 use Rattle.dli_tree.proofs.Lines.{IsFrom, IsLine, end_from, ends_are, first_stands, node_from, stands_on}

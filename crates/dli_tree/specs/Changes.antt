@@ -1,15 +1,8 @@
 -- What an edit of the code stands for, and where a key stands among roots or twins.
-use Rattle.std.specs.Prelude.{◌≡◌, ℕ, ◌<◌, ◌≤◌, List, [], ◌∷◌, length, Bool, true, false, Option, Some, None, slice_get}
-use Rattle.fp_model.specs.declared.database.Node.{Node, out-Node, roll-Node}
-use Rattle.fp_model.specs.declared.definitions.SegDef.{SegDef}
-use Rattle.fp_model.specs.Order.{Edit, Inserts, Replaces, Deletes, Step, below_edited, node_key, nodes_edited}
-use Rattle.fp_model.specs.State.{change_key}
-use Rattle.fp_model.specs.Texts.{same_text}
-use Rattle.key_order.specs.Places.{IsPlace}
+use Rattle.std.specs.Prelude.{Bool, true, false}
+use Rattle.fp_model.specs.Order.{Edit, Inserts, Replaces, Deletes}
 use Rattle.dli_tree.specs.declared.edit.Change.{Change}
 use Rattle.dli_tree.specs.declared.edit.Change.TheVariants.{Delete, Insert, Replace}
-use Rattle.dli_tree.specs.declared.place.Place.{Place}
-use Rattle.dli_tree.specs.declared.place.Place.TheVariants.{Lacks, Stands}
 
 abbrev pub edit_of : Change → Edit
 edit_of (Insert alloc bytes) = Inserts bytes
@@ -20,24 +13,3 @@ abbrev pub is_insert : Change → Bool
 is_insert (Insert alloc bytes) = true
 is_insert (Replace bytes) = false
 is_insert Delete = false
-
--- a place is one of so many elements, or behind them
-abbrev pub IsWithin : ℕ → Place → Type 0
-IsWithin n (Stands at) = at < n
-IsWithin n (Lacks at) = at ≤ n
-
--- the element of the key stands there, or there is none and it would stand there
-abbrev pub IsPlaced : {X : Type 0} → (X → List ℕ) → List ℕ → List X → Place → Type 0
-IsPlaced {X} key k xs (Stands n) = IsPlace key k xs n × (x : X) × (slice_get xs n ≡ Some x)
-    × (same_text (key x) k ≡ true)
-IsPlaced {X} key k xs (Lacks n) = IsPlace key k xs n × ((x : X) → slice_get xs n ≡ Some x → same_text (key x) k ≡ false)
-
--- the twins of a step, edited at the end of the rest of a path
-abbrev pub twins_edited : List SegDef → Edit → Step → List Step → List Node → List Node
-twins_edited types edit s [] twins = nodes_edited types s edit twins
-twins_edited types edit s (t ∷ ts) twins =
-    change_key (node_key types s.segment) s.key
-    (λ n. roll-Node (record (out-Node n) {
-      children =
-          below_edited types edit s.segment (t ∷ ts) (out-Node n).children;
-    })) twins

@@ -1,6 +1,5 @@
 pub mod Paths
 pub mod InOrder
-pub mod Aims
-pub mod Reaches
 pub mod Changes
 pub mod Descents
+pub mod inside

@@ -1,5 +1,5 @@
 -- What the paths of the code stand for: steps, places and occurrences of the model.
-use Rattle.std.specs.Prelude.{ℕ, List, map, Option, option_map}
+use Rattle.std.specs.Prelude.{ℕ, List, map}
 use Rattle.fp_model.specs.Order.{Occurrence, Place, Step}
 use Rattle.dli_tree.specs.declared.path.Path.{Path}
 use Rattle.dli_tree.specs.declared.path.Step.{Step as StepOf}
@@ -10,10 +10,6 @@ step_of s = record { segment = s.segment; key = s.key; serial = s.serial }
 
 abbrev pub steps_of : List StepOf → List Step
 steps_of steps = map step_of steps
-
--- the steps of a path, if there is one
-abbrev pub path_steps : Option Path → Option (List Step)
-path_steps path = option_map (λ p. steps_of p.steps) path
 
 -- a place at the anchor that is looked at, which counts as number 0
 abbrev pub place_of : Path → Place

@@ -1,5 +1,5 @@
 //! What a search looks for, from a segment on.
-ghost use Rattle.dli_tree.specs.Aims.{agrees, aim_of, can_be_met, can_stand, ends_here, entered, inside_step, leads_on, past_step, wants};
+ghost use Rattle.dli_tree.specs.inside.Aims.{agrees, aim_of, can_be_met, can_stand, ends_here, entered, inside_step, leads_on, past_step, wants};
 ghost use Rattle.dli_tree.specs.Paths.{step_of, steps_of};
 ghost use Rattle.fp_model.specs.Order.{last_type, same_step, step_precedes};
 ghost use Rattle.std.specs.Option.{option_copied, option_map};

@@ -1,5 +1,6 @@
 //! Edits at the end of a path: a segment that is inserted, replaced, or deleted with all below it.
-ghost use Rattle.dli_tree.specs.Changes.{edit_of, is_insert, twins_edited};
+ghost use Rattle.dli_tree.specs.Changes.{edit_of, is_insert};
+ghost use Rattle.dli_tree.specs.inside.Changes.{twins_edited};
 ghost use Rattle.dli_tree.specs.InOrder.{AreTypes, are_in_order};
 ghost use Rattle.dli_tree.specs.Paths.{step_of, steps_of};
 ghost use Rattle.fp_model.specs.Order.{below_edited, bytes_at, child_types, edited, new_node, new_root, node_key, nodes_edited, root_key, roots_edited, Inserts, Replaces, Deletes};

@@ -1,7 +1,8 @@
 //! The first segment of an anchor that a get looks for.
-ghost use Rattle.dli_tree.specs.Aims.{Search, aim_of, looks_for, wants};
+ghost use Rattle.dli_tree.specs.inside.Aims.{Search, aim_of, looks_for, wants};
 ghost use Rattle.dli_tree.specs.InOrder.{AreTypes, any_ends, are_in_order};
-ghost use Rattle.dli_tree.specs.Paths.{occurrence_of, path_steps, place_of, step_of, steps_of};
+ghost use Rattle.dli_tree.specs.Paths.{occurrence_of, place_of, step_of, steps_of};
+ghost use Rattle.dli_tree.specs.inside.Paths.{path_steps};
 ghost use Rattle.fp_model.specs.Order.{Step as StepOf, at_end, child_types, dependent, first_admitted, node_order, numbered, root_key, root_order, rows_in_order, sequence, sequentials};
 ghost use Rattle.fp_model.specs.Shape.{are_newest_first, are_rows, is_root, seen_as};
 ghost use Rattle.fp_model.specs.State.{ascend};

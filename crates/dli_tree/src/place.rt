@@ -1,5 +1,5 @@
 //! Roots and twins by their keys: where a key stands among them.
-ghost use Rattle.dli_tree.specs.Changes.{IsPlaced, IsWithin};
+ghost use Rattle.dli_tree.specs.inside.Changes.{IsPlaced, IsWithin};
 ghost use Rattle.key_order.specs.Places.{IsPlace};
 ghost use Rattle.fp_model.specs.Order.{key_in, node_key, root_key};
 ghost use Rattle.fp_model.specs.State.{ascend, is_below};

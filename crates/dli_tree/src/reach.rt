@@ -1,7 +1,7 @@
 //! Which of the roots or twins of a type a search has to enter.
-ghost use Rattle.dli_tree.specs.Aims.{Search, aim_of};
+ghost use Rattle.dli_tree.specs.inside.Aims.{Search, aim_of};
 ghost use Rattle.dli_tree.specs.Paths.{steps_of};
-ghost use Rattle.dli_tree.specs.Reaches.{Bounds, Leaves};
+ghost use Rattle.dli_tree.specs.inside.Reaches.{Bounds, Leaves};
 ghost use Rattle.fp_model.specs.Order.{node_key, root_key};
 ghost use Rattle.fp_model.specs.State.{ascend};
 ghost use Rattle.std.specs.Prelude.{◌≡◌, ◌≤◌, IfSome, length, map, option_map, Some, true};

@@ -2,7 +2,7 @@
 //!
 //! A search goes down from the roots. At each level it enters the twins that the position, the parent and the arguments
 //! leave, found by their keys, and the child types from which a segment that is looked for can be reached.
-ghost use Rattle.dli_tree.specs.Aims.{Search, aim_of, can_be_met, entered, looks_for, wants};
+ghost use Rattle.dli_tree.specs.inside.Aims.{Search, aim_of, can_be_met, entered, looks_for, wants};
 ghost use Rattle.dli_tree.specs.InOrder.{AreTypes, are_in_order};
 ghost use Rattle.dli_tree.specs.Paths.{occurrence_of, place_of, steps_of};
 ghost use Rattle.fp_model.specs.Order.{at_end, child_types, dependent, first_admitted, node_order, one_down, root_order, rows_in_order, sequence, sequential_type, sequentials};

@@ -8,8 +8,8 @@ use Rattle.fp_model.specs.Texts.{number_in}
 use Rattle.fld_calls.specs.declared.operation.Sum.{Sum}
 use Rattle.fld_calls.specs.declared.operation.Sum.TheVariants as sum
 use Rattle.fld_calls.specs.declared.field.Refusal.{Refusal}
-use Rattle.fld_calls.specs.Operations.{sum_byte}
-use Rattle.fld_calls.specs.Refusals.{letter_in, letter_of_refusal, IsDone}
+use Rattle.fld_calls.specs.inside.Operations.{sum_byte}
+use Rattle.fld_calls.specs.inside.Refusals.{letter_in, letter_of_refusal, IsDone}
 
 -- G or a blank
 abbrev fit_letter : Option (List ℕ) → ℕ

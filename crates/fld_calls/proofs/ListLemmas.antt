@@ -8,7 +8,7 @@ use Rattle.fp_model.specs.Fsas.{Fsa, fsa_on, fsas_in, letter_of, list_on, all_bl
 use Rattle.fld_calls.specs.declared.arguments.Fsa.{Fsa as Argument}
 use Rattle.fld_calls.specs.declared.field.Refusal.{Refusal}
 use Rattle.fld_calls.specs.Forms.{form_of, forms, with_letters}
-use Rattle.fld_calls.specs.Refusals.{letter_in}
+use Rattle.fld_calls.specs.inside.Refusals.{letter_in}
 use Rattle.fld_calls.proofs.Fronts.{LeftBehind, Reads, all_left}
 use Rattle.fld_calls.proofs.TryLemmas.{no_blank}
 

@@ -1,6 +1,7 @@
 -- Reading a list from the front.
 use Rattle.fld_calls.specs.declared.arguments.Fsa.{Fsa as Argument}
-use Rattle.fld_calls.specs.Forms.{form_of, forms, is_last, IsShort}
+use Rattle.fld_calls.specs.Forms.{form_of, forms, IsShort}
+use Rattle.fld_calls.specs.inside.Forms.{is_last}
 use Rattle.std.proofs.Common.{◌≡◌, ◌≢◌, refl, ap, ◌∙◌, arith, ℕ, zero, suc, ◌+◌, ◌<◌, List, [], ◌∷◌, ◌++◌, length, true, false, ◌==◌, if◌then◌else◌, Option, Some, None}
 use Rattle.std.specs.List.{AllByRecursion}
 use Rattle.std.proofs.lemmas.Bool.Decides.{nat_tests}

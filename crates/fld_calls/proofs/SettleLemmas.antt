@@ -6,8 +6,8 @@ use Rattle.fp_model.specs.declared.definitions.MsdbDef.{MsdbDef}
 use Rattle.fp_model.specs.Fsas.{Fsa, fsas_in, fsa_on, letter_of, found_by, first_failure, list_on}
 use Rattle.fp_model.specs.FitCalls.{IsFsaList}
 use Rattle.fld_calls.specs.declared.field.Refusal.{Refusal}
-use Rattle.fld_calls.specs.Forms.{of_fields}
-use Rattle.fld_calls.specs.Refusals.{letter_in}
+use Rattle.fld_calls.specs.inside.Forms.{of_fields}
+use Rattle.fld_calls.specs.inside.Refusals.{letter_in}
 use Rattle.fld_calls.proofs.Fronts.{LeftBehind, Reads, all_left}
 use Rattle.fld_calls.proofs.ListBytes.{list_is}
 use Rattle.fld_calls.proofs.TryLemmas.{no_blank}

@@ -13,8 +13,8 @@ use Rattle.fld_calls.specs.declared.operation.Verify.TheVariants as verify
 use Rattle.fld_calls.specs.declared.operation.Sum.TheVariants as sum
 use Rattle.fld_calls.specs.declared.field.Refusal.{Refusal}
 use Rattle.fld_calls.specs.declared.field.Refusal.TheVariants as refusal
-use Rattle.fld_calls.specs.Operations.{byte_of}
-use Rattle.fld_calls.specs.Refusals.{letter_in, bytes_behind, segment_behind}
+use Rattle.fld_calls.specs.inside.Operations.{byte_of}
+use Rattle.fld_calls.specs.inside.Refusals.{letter_in, bytes_behind, segment_behind}
 
 -- ---- fields
 

@@ -1,7 +1,5 @@
 -- Field search arguments as the definitions see them, and with their letters.
-use Rattle.std.specs.Prelude.{◌≡◌, ◌<◌, ℕ, List, [], ◌∷◌, length, map, Bool, true, false, Result, Ok, Err, ⊤}
-use Rattle.fp_model.specs.declared.definitions.FieldDef.{FieldDef}
-use Rattle.fp_model.specs.declared.definitions.MsdbDef.{MsdbDef}
+use Rattle.std.specs.Prelude.{◌≡◌, ◌<◌, ℕ, List, [], ◌∷◌, length, map, Result, Ok, Err, ⊤}
 use Rattle.fp_model.specs.Fsas.{Fsa, ListReading, Whole, Short, BadConnector}
 use Rattle.fld_calls.specs.declared.arguments.Fsa.{Fsa as Argument}
 use Rattle.fld_calls.specs.declared.arguments.FsaFault.{FsaFault}
@@ -47,12 +45,3 @@ IsReadAs (Ok arguments) reading = reading ≡ Whole (forms arguments)
 IsReadAs (Err (fault.Short place)) reading = reading ≡ Short place
 IsReadAs (Err (fault.BadConnector place)) reading = reading ≡ BadConnector place
 IsReadAs (Err fault.Memory) reading = ⊤
-
--- a definition with these fields; what an argument comes to rests on nothing else of one
-abbrev pub of_fields : List FieldDef → MsdbDef
-of_fields fields = record { name = record { 0 = [] }; dynamic = false; fields = fields; length = 0; load = [] }
-
--- whether nothing is behind an argument
-abbrev pub is_last : List ℕ → Bool
-is_last [] = true
-is_last (b ∷ bs) = false

@@ -1,4 +1,3 @@
 pub mod Forms
-pub mod Operations
-pub mod Refusals
 pub mod Settling
+pub mod inside

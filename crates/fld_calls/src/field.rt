@@ -5,8 +5,8 @@
 ghost use Rattle.std.specs.Prelude.{◌≡◌, false, true, length, IfSome, OnErr, OnOk, Some, ◌<◌, ◌^◌, unsigned_abs};
 ghost use Rattle.fp_model.specs.Fsas.{changed, is_key, is_text, letter_on};
 ghost use Rattle.fp_model.specs.Numbers.{bytes_of, number};
-ghost use Rattle.fld_calls.specs.Operations.{byte_of, sum_byte, verify_byte};
-ghost use Rattle.fld_calls.specs.Refusals.{letter_in, bytes_behind, IsDone};
+ghost use Rattle.fld_calls.specs.inside.Operations.{byte_of, sum_byte, verify_byte};
+ghost use Rattle.fld_calls.specs.inside.Refusals.{letter_in, bytes_behind, IsDone};
 
 use crate::operand::{compare_padded, number_in, put_padded};
 use crate::operation::{Operation, Sum, Verify};

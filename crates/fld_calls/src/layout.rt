@@ -2,7 +2,8 @@
 ghost use Rattle.std.specs.List.{AllByRecursion};
 ghost use Rattle.std.specs.Prelude.{◌≡◌, ◌+◌, ◌<◌, ◌^◌, ◌++◌, ◌∷◌, [], if◌then◌else◌, IfNone, IfOk, IfSome, None, OnOk, Some, length, slice_index, take};
 ghost use Rattle.fp_model.specs.Fsas.{behind, connector_in, fsa_in, fsa_text, fsas_of, list_text, operand_length};
-ghost use Rattle.fld_calls.specs.Forms.{forms, is_last, lent_form_of, IsReadAs, IsShort};
+ghost use Rattle.fld_calls.specs.Forms.{forms, lent_form_of, IsReadAs, IsShort};
+ghost use Rattle.fld_calls.specs.inside.Forms.{is_last};
 
 use crate::arguments::{Fsa, FsaFault, LentFsa};
 use fp_model::{Bytes, List, Name};

@@ -1,7 +1,7 @@
 //! The operations of field search arguments.
 ghost use Rattle.std.specs.Prelude.{◌≡◌, ◌||◌, false, IfNone, IfSome, ◌<◌, ◌^◌, unsigned_abs};
 ghost use Rattle.fp_model.specs.Fsas.{is_change, is_verify, summed, verifies};
-ghost use Rattle.fld_calls.specs.Operations.{byte_of, sum_byte, verify_byte};
+ghost use Rattle.fld_calls.specs.inside.Operations.{byte_of, sum_byte, verify_byte};
 
 use std::cmp::Ordering;
 

@@ -4,7 +4,8 @@ ghost use Rattle.fp_model.specs.FitCalls.{IsFsaList};
 ghost use Rattle.fp_model.specs.Fsas.{found_by, fsas_in};
 ghost use Rattle.fp_model.specs.WellFormed.{StandFrom};
 ghost use Rattle.fp_model.specs.declared.definitions.MsdbDef.{MsdbDef as DefOf};
-ghost use Rattle.fld_calls.specs.Forms.{lent_form_of, of_fields};
+ghost use Rattle.fld_calls.specs.Forms.{lent_form_of};
+ghost use Rattle.fld_calls.specs.inside.Forms.{of_fields};
 ghost use Rattle.fld_calls.specs.Settling.{IsSettled};
 
 use crate::arguments::{LentFsa, SettleFault};

@@ -4,9 +4,10 @@ ghost use Rattle.fp_model.specs.FitCalls.{IsFsaList};
 ghost use Rattle.fp_model.specs.Fsas.{all_blank, field_bytes, field_of, fsa_on, fsas_in, letter_of, letter_on, list_on};
 ghost use Rattle.fp_model.specs.Texts.{same_text};
 ghost use Rattle.fp_model.specs.WellFormed.{StandFrom};
-ghost use Rattle.fld_calls.specs.Forms.{forms, lent_form_of, of_fields, with_letters};
-ghost use Rattle.fld_calls.specs.Operations.{byte_of};
-ghost use Rattle.fld_calls.specs.Refusals.{letter_in, segment_behind};
+ghost use Rattle.fld_calls.specs.Forms.{forms, lent_form_of, with_letters};
+ghost use Rattle.fld_calls.specs.inside.Forms.{of_fields};
+ghost use Rattle.fld_calls.specs.inside.Operations.{byte_of};
+ghost use Rattle.fld_calls.specs.inside.Refusals.{letter_in, segment_behind};
 
 use crate::arguments::{Fsa, LentFsa};
 use crate::field::{Refusal, try_field};

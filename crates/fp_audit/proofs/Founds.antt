@@ -16,8 +16,8 @@ use Rattle.std.proofs.lemmas.Bool.{eq-eqb, eqb-true}
 use Rattle.past_replay.specs.Ends.{with_next}
 use Rattle.past_replay.specs.declared.alone.Alone.{Alone}
 use Rattle.past_replay.specs.declared.alone.Alone.TheVariants as alone
-use Rattle.fp_audit.specs.Ending.{IsEndOf}
-use Rattle.fp_audit.specs.Judging.{Finds}
+use Rattle.fp_audit.specs.inside.Ending.{IsEndOf}
+use Rattle.fp_audit.specs.inside.Judging.{Finds}
 
 not_both : true ≡ false → ⊥
 not_both e = cc

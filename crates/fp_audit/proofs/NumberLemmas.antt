@@ -14,7 +14,8 @@ use Rattle.fp_model.specs.State.{drop_key, is_below, put_by_key}
 use Rattle.fp_model.specs.Texts.{same_text}
 use Rattle.key_order.proofs.Ascending.{same_is}
 use Rattle.txn_lang.specs.Numbers.{name_cmp}
-use Rattle.fp_audit.specs.Numbers.{AreKept, KnowsLines, kept_of, last_by_name, with_used}
+use Rattle.fp_audit.specs.Numbers.{AreKept, KnowsLines, kept_of}
+use Rattle.fp_audit.specs.inside.Numbers.{last_by_name, with_used}
 use Rattle.fp_audit.specs.declared.kept.Kept.{Kept}
 
 not_both : true ≡ false → ⊥

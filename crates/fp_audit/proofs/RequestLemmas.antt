@@ -16,7 +16,7 @@ use Rattle.fp_model.specs.Messages.{MessageFault, message_of}
 use Rattle.fp_model.specs.Product.{by_message, by_number, by_script, request_of}
 use Rattle.fp_model.specs.Texts.{same_text}
 use Rattle.txn_lang.specs.Numbers.{place_of}
-use Rattle.fp_audit.specs.Judging.{refused_or}
+use Rattle.fp_audit.specs.inside.Judging.{refused_or}
 
 -- ---- the message
 

@@ -18,7 +18,7 @@ use Rattle.past_segments.specs.declared.slot.Slot.{Slot}
 use Rattle.past_segments.specs.declared.slot.Version.{Version}
 use Rattle.past_segments.proofs.PastLaws.{shows_on}
 use Rattle.fp_model.specs.SerialHistory.{NeverFalls}
-use Rattle.fp_audit.specs.Judging.{Finds, Keeps, Stands}
+use Rattle.fp_audit.specs.inside.Judging.{Finds, Keeps, Stands}
 use Rattle.fp_audit.specs.Setup.{AreReady}
 use Rattle.fp_audit.specs.declared.so_far.SoFar.{SoFar}
 use Rattle.std.proofs.Math.ListN.{drop_of_length-le}

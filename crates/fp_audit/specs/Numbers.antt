@@ -1,25 +1,17 @@
 -- What decides what a line asks for: the format, and the last numbers of terminals, as a map keeps them.
-use Rattle.std.specs.Prelude.{◌≡◌, ℕ, List, Option}
-use Rattle.std.specs.Option.{option_map, option_map_or}
+use Rattle.std.specs.Prelude.{◌≡◌, ℕ, List}
+use Rattle.std.specs.Option.{option_map}
 use Rattle.std.specs.BTreeMap.{is_at}
 use Rattle.std.specs.Map.{lookup}
 use Rattle.fp_model.specs.declared.name.Name.{Name}
 use Rattle.fp_model.specs.History.{History}
-use Rattle.fp_model.specs.Lasts.{Last, format_at, last_of, lasts_of, with_last}
+use Rattle.fp_model.specs.Lasts.{Last, format_at, last_of, lasts_of}
 use Rattle.txn_lang.specs.Numbers.{name_cmp}
 use Rattle.fp_audit.specs.declared.kept.Kept.{Kept}
 
 -- a last number, as it is kept beside the name of its terminal
 abbrev pub kept_of : Last → Kept
 kept_of last = record { number = last.number; line = last.line }
-
--- and back
-abbrev pub last_by_name : Name × Kept → Last
-last_by_name of = record { lterm = of.0; number = of.1.number; line = of.1.line }
-
--- the numbers with one more, where an entry uses one
-abbrev pub with_used : Option Last → List Last → List Last
-with_used used lasts = option_map_or (λ last. with_last last lasts) used lasts
 
 -- the map has these numbers, of each terminal its own
 abbrev pub AreKept : List (Name × Kept) → List Last → Type 0

@@ -1,6 +1,7 @@
 //! What a line asks for behind the entries so far.
-ghost use Rattle.fp_audit.specs.Judging.{IsRequest, NamesScript, refused_or};
-ghost use Rattle.fp_audit.specs.Numbers.{AreKept, KnowsLines, last_by_name, with_used};
+ghost use Rattle.fp_audit.specs.inside.Judging.{IsRequest, NamesScript, refused_or};
+ghost use Rattle.fp_audit.specs.Numbers.{AreKept, KnowsLines};
+ghost use Rattle.fp_audit.specs.inside.Numbers.{last_by_name, with_used};
 ghost use Rattle.fp_model.specs.declared.database.Db.{Db};
 ghost use Rattle.fp_model.specs.declared.scripts.Script.{Script as ScriptOf};
 ghost use Rattle.fp_model.specs.History.{History, with_entry};

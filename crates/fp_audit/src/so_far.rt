@@ -1,6 +1,6 @@
 //! What the entries so far leave, and how the next one is judged by it.
-ghost use Rattle.fp_audit.specs.Ending.{IsEndOf};
-ghost use Rattle.fp_audit.specs.Judging.{Finds, IsRequest, Keeps, NamesScript, Stands, rules_by};
+ghost use Rattle.fp_audit.specs.inside.Ending.{IsEndOf};
+ghost use Rattle.fp_audit.specs.inside.Judging.{Finds, IsRequest, Keeps, NamesScript, Stands, rules_by};
 ghost use Rattle.fp_audit.specs.Setup.{AreReady};
 ghost use Rattle.fp_audit.specs.declared.requests.Request.TheVariants as Request;
 ghost use Rattle.fp_exits.specs.Kinds.{kinds_of};

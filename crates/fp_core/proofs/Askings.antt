@@ -16,7 +16,7 @@ use Rattle.fp_model.specs.ReplyLine.{addressee, line_for, verdict}
 use Rattle.fp_core.specs.declared.asking.Demand.{Demand}
 use Rattle.fp_core.specs.declared.asking.Demand.TheVariants as demand
 use Rattle.fp_core.specs.Numbering.{last_told}
-use Rattle.fp_core.specs.Reading.{IsDemandIn, IsDemandOf, refused_line}
+use Rattle.fp_core.specs.inside.Reading.{IsDemandIn, IsDemandOf, refused_line}
 
 -- ---- by its number
 

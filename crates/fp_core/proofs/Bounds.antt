@@ -16,7 +16,7 @@ use Rattle.fp_source.specs.declared.lines.Lines.{Lines}
 use Rattle.fp_core.specs.declared.engine.Engine.{Engine}
 use Rattle.fp_core.specs.Draining.{IsReachedBy}
 use Rattle.fp_core.specs.Relation.{StandsFor, rules_in}
-use Rattle.fp_core.specs.Rounding.{HasRound, NeedsFewer, work_ahead}
+use Rattle.fp_core.specs.inside.Rounding.{HasRound, NeedsFewer, work_ahead}
 use Rattle.fp_core.proofs.Steps.{regions_long}
 
 -- what is reached under the rules and definitions of one engine is so under those of another that has the same

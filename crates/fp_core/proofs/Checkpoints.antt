@@ -10,7 +10,8 @@ use Rattle.fp_core.specs.declared.did.Did.{Did}
 use Rattle.fp_core.specs.declared.did.Did.TheVariants as did
 use Rattle.fp_core.specs.declared.engine.Engine.{Engine}
 use Rattle.fp_core.specs.Relation.{StandsFor, rules_in}
-use Rattle.fp_core.specs.Standing.{Leaves, Origin, StandsAt, SteppedAt}
+use Rattle.fp_core.specs.Standing.{Leaves, Origin, StandsAt}
+use Rattle.fp_core.specs.inside.Standing.{SteppedAt}
 use Rattle.fp_core.specs.Turning.{Turned, did_seal}
 use Rattle.fp_core.proofs.Leavings.{leaves_more}
 use Rattle.fp_core.proofs.Seals.{did_some, log_after, once_is, owed_long, some_group, times_all, times_more}

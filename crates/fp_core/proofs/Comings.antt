@@ -24,8 +24,9 @@ use Rattle.fp_core.specs.declared.stop.Stop.{Stop}
 use Rattle.fp_core.specs.declared.stop.Stop.TheVariants as stops
 use Rattle.fp_core.specs.Draining.{AreCalm, DrainStopped, Drained, IsInDrain, IsLeftByDrain, IsLeftByStep}
 use Rattle.fp_core.specs.Relation.{AreMade, StandsFor, rules_in}
-use Rattle.fp_core.specs.Rounding.{BeganBy, HasCome, TookTurns, WentBeside, turns_of}
-use Rattle.fp_core.specs.Standing.{IsLeft, IsStill, IsWithin, Leaves, MayStop, Origin, StandsAt, StandsBeside, Stepped, SteppedAt, seals_of}
+use Rattle.fp_core.specs.inside.Rounding.{BeganBy, HasCome, TookTurns, WentBeside, turns_of}
+use Rattle.fp_core.specs.Standing.{IsLeft, IsStill, IsWithin, Leaves, MayStop, Origin, StandsAt, StandsBeside, Stepped, seals_of}
+use Rattle.fp_core.specs.inside.Standing.{SteppedAt}
 use Rattle.fp_core.specs.Turning.{RoundsAreExact}
 use Rattle.fp_core.proofs.Rounds.{makes_round, part_calm, part_events, part_exact, part_of, part_runs}
 use Rattle.fp_core.proofs.Steps.{left_alone, still_at}

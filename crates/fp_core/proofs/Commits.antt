@@ -25,8 +25,8 @@ use Rattle.fp_core.specs.declared.did.Did.TheVariants as did
 use Rattle.fp_core.specs.declared.engine.Active.{Active}
 use Rattle.fp_core.specs.declared.engine.Engine.{Engine}
 use Rattle.fp_core.specs.declared.engine.Region.TheVariants as regions
-use Rattle.fp_core.specs.Acting.{HoldsAll, IsAtWork}
-use Rattle.fp_core.specs.Ending.{draft_of}
+use Rattle.fp_core.specs.inside.Acting.{HoldsAll, IsAtWork}
+use Rattle.fp_core.specs.inside.Ending.{draft_of}
 use Rattle.fp_core.specs.Relation.{IsTransaction, StandsFor, rules_in}
 use Rattle.fp_core.specs.Turning.{AreItemsOf, Turned}
 use Rattle.fp_core.proofs.Ends.{may_end, region_is}

@@ -31,8 +31,9 @@ use Rattle.fp_core.specs.declared.engine.Engine.{Engine}
 use Rattle.fp_core.specs.declared.engine.Owed.{Owed}
 use Rattle.fp_core.specs.declared.engine.Region.{Region}
 use Rattle.fp_core.specs.declared.engine.Region.TheVariants as regions
-use Rattle.fp_core.specs.Acting.{IsAtWork, MayEnd}
-use Rattle.fp_core.specs.Numbering.{last_told, with_used}
+use Rattle.fp_core.specs.inside.Acting.{IsAtWork, MayEnd}
+use Rattle.fp_core.specs.Numbering.{last_told}
+use Rattle.fp_core.specs.inside.Numbering.{with_used}
 use Rattle.fp_core.specs.Relation.{IsMade, IsRead, IsReadIn, IsRegion, IsTransaction, StandsFor, first_place, owed_of, room_of}
 use Rattle.sync_point.specs.Refusals.{bare_entry, refusal_room}
 use Rattle.fp_core.proofs.Places.{all_put, each_has, left_of, put_both, get_front, get_last, is_within, none_some, some_same, sum_has, sum_put}

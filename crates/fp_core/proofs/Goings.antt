@@ -30,8 +30,8 @@ use Rattle.fp_core.specs.declared.engine.Active.{Active}
 use Rattle.fp_core.specs.declared.engine.Ahead.{Ahead}
 use Rattle.fp_core.specs.declared.engine.Engine.{Engine}
 use Rattle.fp_core.specs.declared.engine.Region.TheVariants as regions
-use Rattle.fp_core.specs.Acting.{HasActed, IsAtWork, MayEnd}
-use Rattle.fp_core.specs.Answering.{IsActed, lock_for}
+use Rattle.fp_core.specs.inside.Acting.{HasActed, IsAtWork, MayEnd}
+use Rattle.fp_core.specs.inside.Answering.{IsActed, lock_for}
 use Rattle.fp_core.specs.Relation.{IsAhead, IsRead, IsReadIn, IsRegion, IsTransaction, StandsFor, room_of, rules_in}
 use Rattle.fp_core.proofs.Ends.{may_end}
 use Rattle.fp_core.proofs.Places.{all_put, each_has, none_some, put_both, put_left, sum_put}

@@ -19,7 +19,7 @@ use Rattle.serial_order.proofs.ProductLaws.{laws_of}
 use Rattle.fp_core.specs.declared.engine.Engine.{Engine}
 use Rattle.fp_core.specs.declared.locking.Asked.{Asked}
 use Rattle.fp_core.specs.declared.locking.Asked.TheVariants as asked
-use Rattle.fp_core.specs.Acting.{HasAsked, IsAtWork, MayEnd, NeedsLock}
+use Rattle.fp_core.specs.inside.Acting.{HasAsked, IsAtWork, MayEnd, NeedsLock}
 use Rattle.fp_core.specs.Relation.{IsRegion, StandsFor, rules_in}
 use Rattle.fp_core.proofs.Places.{none_some, some_same}
 use Rattle.fp_core.proofs.Turns.{acted}

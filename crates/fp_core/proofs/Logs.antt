@@ -11,7 +11,7 @@ use Rattle.log_groups.specs.Images as images
 use Rattle.log_groups.specs.Images.{IsAtRest, IsBeforeOrAfter, IsWithOrWithout}
 use Rattle.fp_core.specs.declared.engine.Engine.{Engine}
 use Rattle.fp_core.specs.Relation.{rules_in}
-use Rattle.fp_core.specs.Sealing.{replies_of}
+use Rattle.fp_core.specs.inside.Sealing.{replies_of}
 use Rattle.fp_core.specs.Standing.{Leaves, Origin, StandsAt}
 use Rattle.fp_core.proofs.Leavings.{all_sent, groups_are, leaves_sent, leaves_unsealed, rest_sent}
 use Rattle.fp_core.proofs.Seals.{lines_group, once_is, some_group}

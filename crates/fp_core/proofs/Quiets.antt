@@ -21,8 +21,9 @@ use Rattle.fp_core.specs.declared.engine.Engine.{Engine}
 use Rattle.fp_core.specs.declared.engine.Region.{Region}
 use Rattle.fp_core.specs.declared.engine.Region.TheVariants as region
 use Rattle.fp_core.specs.Relation.{IsRegion, StandsFor, rules_in}
-use Rattle.fp_core.specs.Rounding.{Began, BeganBy, IsQuiet, is_at_rest}
-use Rattle.fp_core.specs.Standing.{Stepped, SteppedBy}
+use Rattle.fp_core.specs.inside.Rounding.{Began, BeganBy, IsQuiet, is_at_rest}
+use Rattle.fp_core.specs.Standing.{Stepped}
+use Rattle.fp_core.specs.inside.Standing.{SteppedBy}
 use Rattle.fp_core.specs.Turning.{Turned, did_for, did_with}
 
 -- ---- the engine and the machine

@@ -36,10 +36,11 @@ use Rattle.fp_core.specs.declared.did.Did.{Did}
 use Rattle.fp_core.specs.declared.did.Did.TheVariants as did
 use Rattle.fp_core.specs.declared.engine.Engine.{Engine}
 use Rattle.fp_core.specs.declared.engine.Owed.{Owed}
-use Rattle.fp_core.specs.Numbering.{with_used}
-use Rattle.fp_core.specs.Reading.{IsDemandIn, refused_line}
+use Rattle.fp_core.specs.inside.Numbering.{with_used}
+use Rattle.fp_core.specs.inside.Reading.{IsDemandIn, refused_line}
 use Rattle.fp_core.specs.Relation.{IsShort, IsTakeable, StandsFor, first_place, owed_of, rules_in}
-use Rattle.fp_core.specs.Standing.{Stepped, SteppedBy}
+use Rattle.fp_core.specs.Standing.{Stepped}
+use Rattle.fp_core.specs.inside.Standing.{SteppedBy}
 use Rattle.fp_core.specs.Turning.{Turned, did_for, did_with}
 use Rattle.fp_core.proofs.Ends.{format_more, lasts_more, made_more, makes_nothing, map_more}
 use Rattle.fp_core.proofs.Places.{all_put, each_has}

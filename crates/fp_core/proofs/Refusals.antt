@@ -23,8 +23,8 @@ use Rattle.msdb_store.specs.Store.{IsOf, Stored}
 use Rattle.fp_core.specs.declared.did.Did.TheVariants as did
 use Rattle.fp_core.specs.declared.engine.Active.{Active}
 use Rattle.fp_core.specs.declared.engine.Engine.{Engine}
-use Rattle.fp_core.specs.Acting.{HasClosed, IsAtEndOf, IsAtWork, MayEnd}
-use Rattle.fp_core.specs.Ending.{IsRefusal, refused_entry}
+use Rattle.fp_core.specs.inside.Acting.{HasClosed, IsAtEndOf, IsAtWork, MayEnd}
+use Rattle.fp_core.specs.inside.Ending.{IsRefusal, refused_entry}
 use Rattle.fp_core.specs.Relation.{IsMade, IsTransaction, StandsFor, owed_of, rules_in}
 use Rattle.fp_core.specs.Turning.{IsExact, Turned}
 use Rattle.fp_core.proofs.Turns.{acted}

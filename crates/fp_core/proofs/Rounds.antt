@@ -19,7 +19,7 @@ use Rattle.fp_core.specs.declared.did.Did.{Did}
 use Rattle.fp_core.specs.declared.engine.Engine.{Engine}
 use Rattle.fp_core.specs.Draining.{AreCalm}
 use Rattle.fp_core.specs.Relation.{StandsFor, rules_in}
-use Rattle.fp_core.specs.Rounding.{HasRound, StoppedAmong, TookTurns, turns_of}
+use Rattle.fp_core.specs.inside.Rounding.{HasRound, StoppedAmong, TookTurns, turns_of}
 use Rattle.fp_core.specs.Standing.{Stepped}
 use Rattle.fp_core.specs.Turning.{AreExact, IsExactTurn, Turned}
 use Rattle.fp_core.proofs.Exacts.{exact_of}

@@ -25,7 +25,7 @@ use Rattle.fp_core.specs.declared.did.Did.TheVariants as did
 use Rattle.fp_core.specs.declared.engine.Engine.{Engine}
 use Rattle.fp_core.specs.declared.engine.Owed.{Owed}
 use Rattle.fp_core.specs.Relation.{StandsFor, first_place, owed_of, rules_in}
-use Rattle.fp_core.specs.Sealing.{AreFreed, replies_of, reply_of, terminals_of}
+use Rattle.fp_core.specs.inside.Sealing.{AreFreed, replies_of, reply_of, terminals_of}
 use Rattle.fp_core.specs.Turning.{Turned, did_seal}
 use Rattle.fp_core.proofs.Tells.{freed_same}
 use Rattle.fp_core.proofs.Turns.{is_device}

@@ -18,7 +18,8 @@ use Rattle.fp_core.specs.declared.did.Did.{Did}
 use Rattle.fp_core.specs.declared.did.Did.TheVariants as did
 use Rattle.fp_core.specs.declared.engine.Engine.{Engine}
 use Rattle.fp_core.specs.Relation.{IsRegion, StandsFor, rules_in}
-use Rattle.fp_core.specs.Standing.{HasGroups, IsBetween, IsLeft, Leaves, Origin, StandsAt, StandsBeside, Stepped, SteppedAt, SteppedBeside, SteppedBy}
+use Rattle.fp_core.specs.Standing.{HasGroups, IsBetween, IsLeft, Leaves, Origin, StandsAt, StandsBeside, Stepped, SteppedBeside}
+use Rattle.fp_core.specs.inside.Standing.{SteppedAt, SteppedBy}
 use Rattle.fp_core.specs.Turning.{Turned}
 use Rattle.fp_core.proofs.Turns.{is_device}
 

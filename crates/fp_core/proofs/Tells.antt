@@ -9,7 +9,7 @@ use Rattle.balancing.specs.Backlog.{AreSame, without}
 use Rattle.balancing.proofs.NameLemmas.{flipped, same_names}
 use Rattle.fp_model.specs.Machine.{is_among, same_name}
 use Rattle.fp_model.specs.declared.name.Name.{Name}
-use Rattle.fp_core.specs.Sealing.{AreFreed}
+use Rattle.fp_core.specs.inside.Sealing.{AreFreed}
 
 -- ---- terminals
 

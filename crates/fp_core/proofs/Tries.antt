@@ -19,7 +19,7 @@ use Rattle.fp_core.specs.declared.engine.Active.{Active}
 use Rattle.fp_core.specs.declared.engine.Engine.{Engine}
 use Rattle.fp_core.specs.declared.numbering.Kept.{Kept}
 use Rattle.fp_core.specs.declared.engine.Region.TheVariants as regions
-use Rattle.fp_core.specs.Acting.{MayEnd}
+use Rattle.fp_core.specs.inside.Acting.{MayEnd}
 use Rattle.fp_core.specs.Numbering.{last_kept, last_told}
 use Rattle.fp_core.specs.Relation.{IsTransaction, StandsFor, rules_in}
 use Rattle.fp_core.proofs.Goings.{stands_with, with_active}

@@ -13,7 +13,7 @@ use Rattle.fp_core.specs.declared.did.Did.TheVariants as did
 use Rattle.fp_core.specs.declared.engine.Active.{Active as ActiveOf}
 use Rattle.fp_core.specs.declared.engine.Engine.{Engine}
 use Rattle.fp_core.specs.declared.engine.Region.TheVariants as regions
-use Rattle.fp_core.specs.Acting.{IsAtWork}
+use Rattle.fp_core.specs.inside.Acting.{IsAtWork}
 use Rattle.fp_core.specs.Relation.{IsRegion, StandsFor, rules_in}
 use Rattle.fp_core.specs.Turning.{IsDidOfRegion, IsExact, Turned, did_of}
 use Rattle.fp_core.proofs.Places.{right_of}

@@ -1,13 +1,9 @@
 pub mod Relation
 pub mod Turning
-pub mod Acting
-pub mod Ending
 pub mod Standing
 pub mod Sparing
 pub mod Fronts
 pub mod Draining
-pub mod Rounding
-pub mod Answering
 pub mod Numbering
 pub mod Reading
-pub mod Sealing
+pub mod inside

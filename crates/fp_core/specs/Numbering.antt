@@ -1,9 +1,8 @@
 -- What is kept of the number of a message: of each terminal the last one, and the reply line that it got.
 use Rattle.std.specs.Prelude.{List, ℕ, [], Option, unwrap_or}
-use Rattle.std.specs.Option.{option_map_or}
 use Rattle.fp_model.specs.declared.calls.Message.{Message}
 use Rattle.fp_model.specs.declared.log.Outcome.{Outcome}
-use Rattle.fp_model.specs.Lasts.{Last, last_of_message, with_last}
+use Rattle.fp_model.specs.Lasts.{Last, last_of_message}
 use Rattle.fp_model.specs.Messages.{terminal_of}
 use Rattle.fp_model.specs.ReplyLine.{addressee, line_for, verdict}
 use Rattle.fp_core.specs.declared.numbering.Kept.{Kept}
@@ -16,7 +15,3 @@ last_kept kept = record { lterm = kept.lterm; number = kept.number; line = kept.
 abbrev pub last_told : Message → Outcome → List ℕ → Option Last
 last_told message outcome reply =
     last_of_message (unwrap_or (line_for (addressee (terminal_of message.line)) (verdict outcome reply)) []) message
-
--- in place of that of its terminal; nothing changes where no number is used up
-abbrev pub with_used : Option Last → List Last → List Last
-with_used used lasts = option_map_or (λ last. with_last last lasts) used lasts

@@ -112,18 +112,6 @@ pub record Stepped (event : Event) (m : Machine) (old_lines new_lines : Lines) (
   pub turned : Turned event m engine did
   pub given : lines_given new_lines + length turned.after.lines ≡ lines_given old_lines + length m.lines
 
--- The same beside a site, which stands for the machine behind the turn,
-pub record SteppedAt (origin : Origin) (event : Event) (m : Machine) (disk : Disk) (engine : Engine) (did : Did)
-    : Type 0 where
-  pub turned : Turned event m engine did
-  pub at : StandsAt origin disk engine turned.after
-
--- or beside a source, whose lines are those that the machine behind the turn has not read,
-pub record SteppedBy (event : Event) (m : Machine) (old_lines new_lines : Lines) (left : List ℕ) (engine : Engine)
-    (did : Did) : Type 0 where
-  pub stepped : Stepped event m old_lines new_lines engine did
-  pub lines_are : stepped.turned.after.lines ≡ lines_ahead new_lines left
-
 -- or beside both.
 pub record SteppedBeside (origin : Origin) (event : Event) (m : Machine) (disk : Disk) (old_lines new_lines : Lines)
     (left : List ℕ) (engine : Engine) (did : Did) : Type 0 where

@@ -1,5 +1,5 @@
 //! The turn of an active region: one thing done.
-ghost use Rattle.fp_core.specs.Acting.{IsAtWork, MayEnd, NeedsLock};
+ghost use Rattle.fp_core.specs.inside.Acting.{IsAtWork, MayEnd, NeedsLock};
 ghost use Rattle.fp_core.specs.Relation.{StandsFor, rules_in};
 ghost use Rattle.fp_core.specs.Turning.{Turned};
 ghost use Rattle.fp_model.specs.Machine.{Machine, Transaction};

@@ -1,7 +1,7 @@
 //! An active region runs to its next call, and answers it where it needs no lock.
 ghost use Rattle.ci_locks.specs.Table.{standing};
-ghost use Rattle.fp_core.specs.Acting.{HasActed, IsAtWork, MayEnd};
-ghost use Rattle.fp_core.specs.Answering.{IsActed};
+ghost use Rattle.fp_core.specs.inside.Acting.{HasActed, IsAtWork, MayEnd};
+ghost use Rattle.fp_core.specs.inside.Answering.{IsActed};
 ghost use Rattle.fp_core.specs.Relation.{IsAhead, IsSetup, IsTransaction, rules_in};
 ghost use Rattle.fp_model.specs.Machine.{Machine, Transaction};
 ghost use Rattle.fp_model.specs.declared.database.Db.{Db};

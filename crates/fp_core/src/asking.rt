@@ -1,5 +1,5 @@
 //! What a line asks for: a message, or nothing, and it is refused.
-ghost use Rattle.fp_core.specs.Reading.{IsDemandIn, IsDemandOf, IsRefused, IsUnknown, request_for, request_unless};
+ghost use Rattle.fp_core.specs.inside.Reading.{IsDemandIn, IsDemandOf, IsRefused, IsUnknown, request_for, request_unless};
 ghost use Rattle.fp_core.specs.Numbering.{last_told};
 ghost use Rattle.fp_model.specs.History.{History};
 ghost use Rattle.fp_model.specs.Lasts.{format_at, lasts_of, uses_number};

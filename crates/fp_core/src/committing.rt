@@ -1,6 +1,6 @@
 //! A transaction that replies, and holds what it needs, is settled.
-ghost use Rattle.fp_core.specs.Acting.{HoldsAll, IsAtWork, MayEnd};
-ghost use Rattle.fp_core.specs.Ending.{draft_of};
+ghost use Rattle.fp_core.specs.inside.Acting.{HoldsAll, IsAtWork, MayEnd};
+ghost use Rattle.fp_core.specs.inside.Ending.{draft_of};
 ghost use Rattle.fp_core.specs.Relation.{rules_in};
 ghost use Rattle.fp_core.specs.Turning.{Turned};
 ghost use Rattle.fp_model.specs.Machine.{Machine, Transaction};

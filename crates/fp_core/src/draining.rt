@@ -3,7 +3,7 @@ ghost use Rattle.drain_laws.specs.ProductGauge.{weight_of_line};
 ghost use Rattle.fp_core.specs.Draining.{DrainStopped, Drained, IsLeftByDrain, IsReachedBy};
 ghost use Rattle.fp_core.specs.Fronts.{HoldsFronts, KeepsFronts};
 ghost use Rattle.fp_core.specs.Relation.{StandsFor, rules_in};
-ghost use Rattle.fp_core.specs.Rounding.{Began, BeganBy, IsQuiet, StoppedAmong, TookTurns, Went, WentBeside, is_at_rest, turns_of, work_ahead};
+ghost use Rattle.fp_core.specs.inside.Rounding.{Began, BeganBy, IsQuiet, StoppedAmong, TookTurns, Went, WentBeside, is_at_rest, turns_of, work_ahead};
 ghost use Rattle.fp_core.specs.Sparing.{IsLogSet, Spares};
 ghost use Rattle.fp_core.specs.Standing.{IsCausedBySite, IsCausedBySource, IsContinued, MayStop, Origin, StandsBeside, number_of};
 ghost use Rattle.fp_model.specs.Machine.{Machine};

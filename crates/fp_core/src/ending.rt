@@ -1,8 +1,9 @@
 //! What each end of a transaction does: an entry, no locks, an idle region.
 ghost use Rattle.ci_locks.specs.Standing.{Shows};
 ghost use Rattle.ci_locks.specs.Table.{standing};
-ghost use Rattle.fp_core.specs.Acting.{MayEnd};
-ghost use Rattle.fp_core.specs.Numbering.{last_told, with_used};
+ghost use Rattle.fp_core.specs.inside.Acting.{MayEnd};
+ghost use Rattle.fp_core.specs.Numbering.{last_told};
+ghost use Rattle.fp_core.specs.inside.Numbering.{with_used};
 ghost use Rattle.fp_core.specs.Relation.{IsShort, owed_of};
 ghost use Rattle.fp_core.specs.declared.engine.Region.TheVariants as regions;
 ghost use Rattle.fp_model.specs.LogText.{FitsEntry, KeepsRules, entry_text};

@@ -1,6 +1,6 @@
 //! An active region asks for the lock that it needs.
 ghost use Rattle.ci_locks.specs.Table.{standing};
-ghost use Rattle.fp_core.specs.Acting.{HasAsked, IsAtWork, MayEnd, NeedsLock};
+ghost use Rattle.fp_core.specs.inside.Acting.{HasAsked, IsAtWork, MayEnd, NeedsLock};
 ghost use Rattle.fp_core.specs.Relation.{rules_in};
 ghost use Rattle.fp_model.specs.Answers.{serves};
 ghost use Rattle.fp_model.specs.Machine.{Machine, Transaction};

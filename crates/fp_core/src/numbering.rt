@@ -1,5 +1,6 @@
 //! Message numbers: of each terminal the last one is kept, and the reply line that it got.
-ghost use Rattle.fp_core.specs.Numbering.{last_kept, last_told, with_used};
+ghost use Rattle.fp_core.specs.Numbering.{last_kept, last_told};
+ghost use Rattle.fp_core.specs.inside.Numbering.{with_used};
 ghost use Rattle.fp_model.specs.Messages.{terminal_of};
 ghost use Rattle.fp_model.specs.ReplyLine.{addressee, line_for, verdict};
 ghost use Rattle.std.specs.Prelude.{◌≡◌, ◌≤◌, ◌+◌, [], IfOk, option_map, unwrap_or};

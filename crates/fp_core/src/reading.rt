@@ -1,9 +1,10 @@
 //! IN: a line is read, and queued, held or refused.
 ghost use Rattle.balancing.specs.Backlog.{AreSame};
 ghost use Rattle.fp_core.specs.Numbering.{last_kept};
-ghost use Rattle.fp_core.specs.Reading.{IsRefused, refused_line};
+ghost use Rattle.fp_core.specs.inside.Reading.{IsRefused, refused_line};
 ghost use Rattle.fp_core.specs.Relation.{IsShort, IsTakeable, StandsFor, rules_in};
-ghost use Rattle.fp_core.specs.Standing.{IsCausedBySource, MayStop, Stepped, SteppedBy, number_of};
+ghost use Rattle.fp_core.specs.Standing.{IsCausedBySource, MayStop, Stepped, number_of};
+ghost use Rattle.fp_core.specs.inside.Standing.{SteppedBy};
 ghost use Rattle.fp_core.specs.Turning.{did_with};
 ghost use Rattle.fp_model.specs.Lasts.{last_by};
 ghost use Rattle.fp_model.specs.Machine.{Machine, is_among, terminal_in, with_line, with_message, with_refusal};

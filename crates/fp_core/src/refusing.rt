@@ -1,6 +1,6 @@
 //! A transaction is refused, or begins again.
-ghost use Rattle.fp_core.specs.Acting.{HasClosed, IsAtEndOf, IsAtWork, MayEnd};
-ghost use Rattle.fp_core.specs.Ending.{IsRefusal, refused_entry};
+ghost use Rattle.fp_core.specs.inside.Acting.{HasClosed, IsAtEndOf, IsAtWork, MayEnd};
+ghost use Rattle.fp_core.specs.inside.Ending.{IsRefusal, refused_entry};
 ghost use Rattle.fp_core.specs.Relation.{IsShort, StandsFor, rules_in};
 ghost use Rattle.fp_core.specs.Turning.{Turned};
 ghost use Rattle.fp_model.specs.Asking.{Rolls};

@@ -1,9 +1,10 @@
 //! LOG and CKPT: entries are sealed, their reply lines sent, and their terminals freed.
 ghost use Rattle.fp_core.specs.Fronts.{HoldsFronts, KeepsFronts};
 ghost use Rattle.fp_core.specs.Relation.{StandsFor, rules_in};
-ghost use Rattle.fp_core.specs.Sealing.{AreFreed, IsOfLog, replies_of, reply_of, terminals_of};
+ghost use Rattle.fp_core.specs.inside.Sealing.{AreFreed, IsOfLog, replies_of, reply_of, terminals_of};
 ghost use Rattle.fp_core.specs.Sparing.{IsLogSet, Spares};
-ghost use Rattle.fp_core.specs.Standing.{IsCausedBySite, IsContinued, Leaves, MayStop, Origin, StandsAt, SteppedAt, seals_of};
+ghost use Rattle.fp_core.specs.Standing.{IsCausedBySite, IsContinued, Leaves, MayStop, Origin, StandsAt, seals_of};
+ghost use Rattle.fp_core.specs.inside.Standing.{SteppedAt};
 ghost use Rattle.fp_core.specs.Turning.{Turned};
 ghost use Rattle.fp_model.specs.Machine.{Machine, sealed_all, terminal_in};
 ghost use Rattle.fp_model.specs.Messages.{terminal_of};

@@ -14,7 +14,8 @@ use Rattle.def_tables.specs.Readings.{or_fault}
 use Rattle.def_tables.specs.Values.{as_name}
 use Rattle.def_tables.specs.Keys.{only, needed, flag_at, within}
 use Rattle.def_tables.specs.Fields.{fields_at}
-use Rattle.fp_defs.specs.Segments.{IsNarrow, segment_name, no_limit, says_sequential, place_of, parent_in, parent_at, at_its_place, sequential_at, segment_of, all_fit}
+use Rattle.fp_defs.specs.Segments.{segment_name, no_limit, says_sequential, place_of, parent_in, parent_at, at_its_place, sequential_at, segment_of, all_fit}
+use Rattle.fp_defs.specs.inside.Segments.{IsNarrow}
 use Rattle.def_tables.specs.declared.fault.DefsFault.TheVariants.{BadField}
 use Rattle.def_tables.specs.declared.keys.Form.TheVariants.{Segment}
 use Rattle.fp_defs.proofs.Beside.{Beside, IsRead}

@@ -4,3 +4,4 @@ pub mod Areas
 pub mod Dedbs
 pub mod Whole
 pub mod Exits
+pub mod inside

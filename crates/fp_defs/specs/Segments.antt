@@ -1,5 +1,5 @@
 -- The tables of the segment types of a data entry database.
-use Rattle.std.specs.Prelude.{◌<◌, IfSome, ℕ, pos, ◌+◌, ◌*◌, List, [], ◌∷◌, length, map, Bool, true, false, not, ◌&&◌, ◌==◌, if◌then◌else◌, Option, Some, None, unwrap_or, Result, Ok, Err, codes, ⊤}
+use Rattle.std.specs.Prelude.{ℕ, pos, ◌+◌, ◌*◌, List, [], ◌∷◌, length, map, Bool, true, false, not, ◌&&◌, ◌==◌, if◌then◌else◌, Option, Some, None, unwrap_or, Result, Ok, Err, codes, ⊤}
 use Rattle.std.specs.List.{position_from}
 use Rattle.std.specs.Option.{option_map_or}
 use Rattle.toml.specs.Data.{Data, Members, get_member, as_bool}
@@ -86,10 +86,3 @@ all_fit room types place [] = Ok tt
 all_fit room types place (def ∷ defs) = do
   _ ← within (codes "fields") 0 room (pos (stored_length types place def))
   all_fit room types (place + 1) defs
-
--- ---- no part of what a text means: a condition of a function that makes definitions of drafts
-
--- A segment type with a parent and a length that its definition has room for.
-pub record IsNarrow (def : SegDef) : Type 0 where
-  pub near : IfSome def.parent (λ parent. parent < 256)
-  pub short : def.length < 65536

@@ -10,7 +10,8 @@ ghost use Rattle.fp_model.specs.Order.{is_child_of, numbers_from, child_types};
 ghost use Rattle.fp_model.specs.WellFormed.{has_sequential, in_fours, stored_length};
 ghost use Rattle.def_tables.specs.Readings.{Gives, in_turn};
 ghost use Rattle.def_tables.specs.Keys.{occurs, once};
-ghost use Rattle.fp_defs.specs.Segments.{IsNarrow, segment_names, segment_name, says_sequential, place_of, parent_in, parent_at, at_its_place, sequential_at, segment_of, all_fit};
+ghost use Rattle.fp_defs.specs.Segments.{segment_names, segment_name, says_sequential, place_of, parent_in, parent_at, at_its_place, sequential_at, segment_of, all_fit};
+ghost use Rattle.fp_defs.specs.inside.Segments.{IsNarrow};
 
 use def_tables::{
     DefsFault, Form, as_name, bad_field, count_within, fields_at, flag_at, member, name_at, needed,

@@ -1,9 +1,8 @@
 -- The calls of the system that were made of a data set, of the parts of a source, or of the output, the newest first.
-use Rattle.std.specs.Prelude.{ℕ, Bool, true, false, List, [], ◌∷◌, Option, Some, None, ◌≡◌, ◌==◌, ◌||◌, if◌then◌else◌, slice_index}
+use Rattle.std.specs.Prelude.{ℕ, Bool, true, false, List, [], ◌∷◌, Option, Some, None, ◌==◌, ◌||◌}
 use Rattle.fp_source.specs.declared.part.Part.{Part}
 use Rattle.fp_files.specs.declared.folder.Access.{Access}
 use Rattle.fp_files.specs.declared.folder.Access.TheVariants.{Change, Look}
-use Rattle.fp_source.specs.declared.part.Part.TheVariants.{Definitions, Scripts, Schedule, Messages}
 
 pub data HostCall : Type 0 where
   -- these bytes were written to the file at this offset, all of them or some
@@ -30,36 +29,6 @@ pub data HostCall : Type 0 where
   Sent : HostCall
   -- all text that was taken in was written to the output
   WroteOut : HostCall
-
--- the part of a number
-abbrev pub part_of : ℕ → Part
-part_of n =
-    if n == 0 then Definitions else
-    if n == 1 then Scripts else
-    if n == 2 then Schedule else
-    Messages
-
--- the access of a number
-abbrev pub access_of : ℕ → Access
-access_of n =
-    if n == 0 then Change else
-    Look
-
--- the call of some numbers and bytes
-abbrev pub call_of : List ℕ → List ℕ → HostCall
-call_of numbers bytes =
-    if slice_index numbers 0 == 0 then Wrote (slice_index numbers 1) bytes else
-    if slice_index numbers 0 == 1 then Synced else
-    if slice_index numbers 0 == 2 then Rewrote (slice_index numbers 1) else
-    if slice_index numbers 0 == 3 then FolderSynced else
-    if slice_index numbers 0 == 4 then Made else
-    if slice_index numbers 0 == 5 then Locked (access_of (slice_index numbers 1)) else
-    if slice_index numbers 0 == 6 then Read else
-    if slice_index numbers 0 == 7 then PartRead (part_of (slice_index numbers 1)) (slice_index numbers 2) else
-    if slice_index numbers 0 == 8 then Sent else
-    if slice_index numbers 0 == 9 then WroteOut else
-    if slice_index numbers 0 == 10 then RewroteSome else
-    Measured (slice_index numbers 1)
 
 -- the newest call
 abbrev pub newest : List HostCall → Option HostCall
@@ -128,12 +97,3 @@ is_written_out [] = false
 is_written_out (Sent ∷ earlier) = false
 is_written_out (WroteOut ∷ earlier) = true
 is_written_out (call ∷ earlier) = is_written_out earlier
-
--- what reads of a file leave of what was known of the calls before
-pub record OnlyReads (old new : List HostCall) : Type 0 where
-  pub synced : is_synced new ≡ is_synced old
-  pub named : is_named new ≡ is_named old
-  pub settled : is_settled new ≡ is_settled old
-  pub locked : is_locked new ≡ is_locked old
-  pub alone : is_alone new ≡ is_alone old
-  pub length : known_length new ≡ known_length old

@@ -3,3 +3,4 @@ pub mod Causes
 pub mod Files
 pub mod Output
 pub mod Sets
+pub mod inside

@@ -1,5 +1,6 @@
 //! Bytes of a file that were read before they were asked for.
-ghost use Rattle.fp_files.specs.Calls.{OnlyReads, is_locked};
+ghost use Rattle.fp_files.specs.Calls.{is_locked};
+ghost use Rattle.fp_files.specs.inside.Calls.{OnlyReads};
 ghost use Rattle.std.specs.Prelude.{◌≡◌, ◌≤◌, [], length, true};
 
 use crate::host;

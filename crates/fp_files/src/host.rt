@@ -2,7 +2,8 @@
 //! then notes it. That it makes the call that it notes has to be read: no clause can say so.
 //!
 //! A data set's file is read, written and made only behind the lock of its folder, which a list of calls tells.
-ghost use Rattle.fp_files.specs.Calls.{access_of, is_alone, is_locked, part_of};
+ghost use Rattle.fp_files.specs.Calls.{is_alone, is_locked};
+ghost use Rattle.fp_files.specs.inside.Calls.{access_of, part_of};
 ghost use Rattle.fp_files.specs.Calls.HostCall.{FolderSynced, Locked, Made, Measured, PartRead, Read, Rewrote, RewroteSome, Sent, Synced, WroteOut, Wrote};
 ghost use Rattle.fp_files.specs.Output.{Gathers, WritesOut};
 ghost use Rattle.std.specs.Option.{ForSome};

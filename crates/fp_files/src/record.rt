@@ -1,5 +1,6 @@
 //! A list of calls of the system that only clauses read.
-ghost use Rattle.fp_files.specs.Calls.{HostCall, call_of};
+ghost use Rattle.fp_files.specs.Calls.{HostCall};
+ghost use Rattle.fp_files.specs.inside.Calls.{call_of};
 ghost use Rattle.std.specs.Borrow.{ftrue};
 ghost use Rattle.std.specs.Prelude.{◌≡◌, [], ◌∷◌, List};
 

@@ -94,12 +94,6 @@ pub record IsShownOn (number : ℕ) (bytes : List ℕ) (def : MsdbDef) : Type 0 
   pub root : number ≡ 0
   pub whole : FitsSegment bytes def
 
--- where the call is a get, and its answer says that it found, the answer shows a segment of the database
-abbrev pub FitsAnswer : List MsdbDef → Call → Answer → Type 0
-FitsAnswer defs (call.Get get hold db ssas) answer =
-    same_text (trimmed answer.status) [] ≡ true → OfMsdb defs db (IsShownOn answer.segment answer.bytes)
-FitsAnswer defs c answer = ⊤
-
 -- ---- deferred calls
 
 -- a deferred call as such calls leave it

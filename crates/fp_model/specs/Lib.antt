@@ -41,3 +41,4 @@ pub mod WellFormed
 pub mod Shape
 pub mod FitCalls
 pub mod Readings
+pub mod inside

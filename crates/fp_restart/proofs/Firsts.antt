@@ -10,7 +10,7 @@ use Rattle.fp_model.specs.declared.log.Item.TheVariants.{Segment, Image, Range}
 use Rattle.fp_model.specs.ItemTargets.{names_interval}
 use Rattle.fp_model.specs.Items.{AreFit, IsFit, begins_with_image, is_image}
 use Rattle.log_groups.proofs.LogImages.{all-append}
-use Rattle.fp_restart.specs.Begun.{Begins, IsBegunBy, IsJudged, Judges, has_begun}
+use Rattle.fp_restart.specs.inside.Begun.{Begins, IsBegunBy, IsJudged, Judges, has_begun}
 use Rattle.fp_restart.specs.declared.begun.Begun.{Begun}
 use Rattle.fp_restart.proofs.Fits.{all-back, all-front}
 

@@ -6,7 +6,7 @@ use Rattle.std.proofs.lemmas.Bool.Decides.{nat_tests}
 use Rattle.std.specs.Ordering.{is_eq, nat_cmp, ordering_then}
 use Rattle.std.specs.declared.cmp.Ordering.{Ordering}
 use Rattle.std.specs.declared.cmp.Ordering.TheVariants.{Less, Equal, Greater}
-use Rattle.fp_restart.specs.Begun.{interval_cmp}
+use Rattle.fp_restart.specs.inside.Begun.{interval_cmp}
 
 then_test : (o p : Ordering) → is_eq (ordering_then o p) ≡ (is_eq o && is_eq p)
 then_test Less p = refl

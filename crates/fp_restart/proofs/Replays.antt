@@ -30,7 +30,7 @@ use Rattle.log_groups.specs.Images.{IsAtRest, IsKept, IsLog}
 use Rattle.log_groups.specs.Kept.{IsSafe, IsSound}
 use Rattle.log_groups.specs.Log.{LogState}
 use Rattle.msdb_store.specs.Store.{IsFitSegment, IsOf, Stored}
-use Rattle.fp_restart.specs.Begun.{IsBegunBy}
+use Rattle.fp_restart.specs.inside.Begun.{IsBegunBy}
 use Rattle.fp_restart.specs.declared.begun.Begun.{Begun}
 use Rattle.fp_restart.specs.Replayed.{HoldsFit, IsFirstBadAt, IsFollowed, IsReadable, IsReplayed, IsTaken, Progress, ReadsBack, way_to}
 use Rattle.fp_restart.specs.declared.numbers.Numbers.{Numbers}

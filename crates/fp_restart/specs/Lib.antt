@@ -1,5 +1,4 @@
-pub mod Begun
 pub mod Restarts
 pub mod Replayed
 pub mod Faults
-pub mod Numbers
+pub mod inside

@@ -15,7 +15,7 @@ use Rattle.log_groups.specs.Reads.{HasGroup}
 use Rattle.msdb_store.specs.Store.{Stored}
 use Rattle.fp_restart.specs.declared.begun.Begun.{Begun}
 use Rattle.fp_restart.specs.declared.numbers.Numbers.{Numbers}
-use Rattle.fp_restart.specs.Begun.{IsBegunBy}
+use Rattle.fp_restart.specs.inside.Begun.{IsBegunBy}
 use Rattle.fp_restart.specs.Restarts.{IsBadAt}
 
 -- How far a log was read: the first gate and the place now, how many entries stand between the two, the format in which
@@ -50,12 +50,6 @@ pub record AreOfSome (log : LogState) (numbers : Numbered) : Type 0 where
 pub record HasNumbersOf (entries : List Entry) (old new : Numbers) : Type 0 where
   pub format : new.format ≡ format_at old.format entries
   pub lasts : new.lasts.terminals ≡ lasts_behind old.format entries old.lasts.terminals
-
--- so they are behind some entries, of this number
-pub record HasNumbersOfSome (count : ℕ) (old new : Numbers) : Type 0 where
-  pub entries : List Entry
-  pub count_is : count ≡ length entries
-  pub numbers : HasNumbersOf entries old new
 
 module _ (defs : Defs) (log : List ℕ) where
   -- from the first gate on the log holds whole groups up to that place; their items may be applied

@@ -1,6 +1,6 @@
 //! The intervals of areas that the items of a log have named so far.
 ghost use Rattle.fp_model.specs.declared.log.Item.{Item as ItemOf};
-ghost use Rattle.fp_restart.specs.Begun.{IsBegunBy, has_begun};
+ghost use Rattle.fp_restart.specs.inside.Begun.{IsBegunBy, has_begun};
 ghost use Rattle.std.specs.Prelude.{◌≡◌, ◌==◌, ◌&&◌, ◌||◌, ℕ, [], OnOk};
 
 use std::alloc::{AllocError, Global};

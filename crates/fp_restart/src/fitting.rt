@@ -1,6 +1,6 @@
 //! Whether the items of a group may be applied.
 ghost use Rattle.fp_model.specs.Items.{FitsMsdb, IsAreaInterval, IsFit, area_sizes, items_of};
-ghost use Rattle.fp_restart.specs.Begun.{Begins, Judges};
+ghost use Rattle.fp_restart.specs.inside.Begun.{Begins, Judges};
 ghost use Rattle.fp_model.specs.State.{first_area_set};
 ghost use Rattle.std.specs.List.{AllByRecursion};
 ghost use Rattle.std.specs.Prelude.{◌≡◌, ◌+◌, ◌*◌, ◌^◌, ◌≤◌, ◌-◌, ◌∷◌, [], None, Some, IfNone, IfOk, IfSome, OnSome, false, length, slice_get, take, true};

@@ -11,7 +11,7 @@ use Rattle.fp_model.specs.declared.database.SeqItem.{SeqItem}
 use Rattle.fp_model.specs.declared.definitions.SegDef.{SegDef}
 use Rattle.fp_model.specs.Order.{Occurrence, Step, at_end, child_types, dependent, direct, key_in, node_order, node_step, numbers_from, root_order, rows_in_order, sequence, sequential_type, sequentials, under}
 use Rattle.fp_show.specs.DbText.{last_type, occurrence_line, typed_line}
-use Rattle.fp_show.specs.Walk.{is_direct, kinds_from, line_below, node_text, root_text, row_text, rows_text, sequentials_text}
+use Rattle.fp_show.specs.inside.Walk.{is_direct, kinds_from, line_below, node_text, root_text, row_text, rows_text, sequentials_text}
 use Rattle.fp_show.proofs.Pairs.{opened}
 use Rattle.fp_show.proofs.Pieces.{flat_map-map}
 

@@ -1,4 +1,4 @@
 pub mod FieldText
 pub mod DbText
 pub mod GroupText
-pub mod Walk
+pub mod inside

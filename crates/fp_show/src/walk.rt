@@ -3,7 +3,7 @@
 //! The walk goes down the trees as they stand, without keys or paths, and writes each segment as it is met.
 ghost use Rattle.fp_model.specs.Order.{child_types, sequential_type};
 ghost use Rattle.fp_show.specs.DbText.{segment_line, typed_line};
-ghost use Rattle.fp_show.specs.Walk.{is_direct, kinds_from, node_text, root_text, rows_text, sequentials_text};
+ghost use Rattle.fp_show.specs.inside.Walk.{is_direct, kinds_from, node_text, root_text, rows_text, sequentials_text};
 ghost use Rattle.fp_show.specs.FieldText.{field_texts, name_text};
 ghost use Rattle.std.specs.List.{join_with_byte};
 ghost use Rattle.std.specs.Prelude.{◌≡◌, ◌++◌, ◌+◌, ◌*◌, ◌<◌, IfNone, IfSome, OnOk, [], ◌∷◌, length, replicate};

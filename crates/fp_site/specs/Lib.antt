@@ -2,3 +2,4 @@ pub mod Disk
 pub mod Moments
 pub mod Site
 pub mod Written
+pub mod inside

@@ -9,12 +9,6 @@ use Rattle.fp_site.specs.Disk.{written}
 abbrev pub zeros : ℕ → List ℕ
 zeros n = replicate n 0
 
--- a write of some bytes, in one equation
-pub written_some : (old : List ℕ) (at : ℕ) (bytes : List ℕ) → 1 ≤ length bytes
-    → written old at bytes ≡ take at old ++ (zeros (at - length old) ++ (bytes ++ drop (at + length bytes) old))
-written_some old at [] some = absurd (omega arith)
-written_some old at (b ∷ bytes) some = refl
-
 -- a write may lengthen, up to its end
 pub length-written : (old : List ℕ) (at : ℕ) (bytes : List ℕ) → (length old ≤ length (written old at bytes))
     × (length (written old at bytes) ≤ max (length old) (at + length bytes))
@@ -37,12 +31,6 @@ pub get_or_zeros : (n k : ℕ) → ◌≡◌ {A = ℕ} (get_or (zeros n) k 0) 0
 get_or_zeros zero k = refl
 get_or_zeros (suc n) zero = refl
 get_or_zeros (suc n) (suc k) = get_or_zeros n k
-
--- zeros behind a list read as what is past its end
-pub get_or-append_zeros : (xs : List ℕ) (n k : ℕ) → get_or (xs ++ zeros n) k 0 ≡ get_or xs k 0
-get_or-append_zeros [] n k = get_or_zeros n k
-get_or-append_zeros (x ∷ xs) n zero = refl
-get_or-append_zeros (x ∷ xs) n (suc k) = get_or-append_zeros xs n k
 
 -- the bytes outside the range stay
 pub written_other : (old : List ℕ) (at : ℕ) (bytes : List ℕ) (i : ℕ) → (i < at) ⊎ (at + length bytes ≤ i)

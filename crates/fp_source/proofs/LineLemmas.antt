@@ -8,7 +8,7 @@ use Rattle.std.proofs.lemmas.List.Elements.{All-nil, All-cons}
 use Rattle.std.proofs.lemmas.Bool.{cases_eq}
 use Rattle.std.proofs.lemmas.Bool.Decides.{nat_tests}
 use Rattle.fp_model.specs.Messages.{LineFault, LineTooLong, TooManyLines, lines_of, raw_lines, but_empty_last, fault_of_line}
-use Rattle.fp_source.specs.Newlines.{HasNoNewline, HasLongLine}
+use Rattle.fp_source.specs.inside.Newlines.{HasNoNewline, HasLongLine}
 use Rattle.fp_source.specs.Lines.{fault_from}
 use Rattle.fp_source.proofs.Pieces.{plain_append}
 

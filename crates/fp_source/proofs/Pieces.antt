@@ -5,7 +5,7 @@ use Rattle.std.proofs.lemmas.List.Elements.{All-append}
 use Rattle.std.specs.Prelude.{◌==◌, if◌then◌else◌}
 use mir.Val.{bool_byte}
 use Rattle.fp_lists.specs.Faults.{Rose}
-use Rattle.fp_source.specs.Newlines.{HasNoNewline, IsFirstPart, HasLongLine, after_part}
+use Rattle.fp_source.specs.inside.Newlines.{HasNoNewline, IsFirstPart, HasLongLine, after_part}
 
 -- a piece that was copied from the front of what is left, and what is left behind it
 pub piece_given : (bytes rest copied tail : List ℕ) (at n : ℕ) → rest ≡ drop at bytes → n ≤ length rest

@@ -1,4 +1,4 @@
 pub mod Source
 pub mod Memory
-pub mod Newlines
 pub mod Lines
+pub mod inside

@@ -4,7 +4,6 @@ use Rattle.std.specs.List.{list_any}
 use Rattle.fp_source.specs.declared.part.Part.{Part}
 use Rattle.fp_source.specs.declared.part.Part.TheVariants.{Definitions, Scripts, Schedule, Messages}
 use Rattle.fp_source.specs.declared.portion.Portion.{Portion}
-use Rattle.fp_source.specs.declared.failures.Failures.{Failures}
 use Rattle.fp_source.specs.declared.memory.MemorySource.{MemorySource}
 
 -- what is left of a part
@@ -24,10 +23,6 @@ part_of parts Definitions = get_or parts 0 []
 part_of parts Scripts = get_or parts 1 []
 part_of parts Schedule = get_or parts 2 []
 part_of parts Messages = get_or parts 3 []
-
--- which calls fail, and how many did
-abbrev pub memory_failures : MemorySource → Failures
-memory_failures m = m.failures
 
 -- how many calls were made of it
 abbrev pub calls_made : MemorySource → ℕ

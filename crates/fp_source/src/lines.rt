@@ -8,7 +8,7 @@ ghost use Rattle.std.specs.Str.Lines.{strip_carriage_return};
 ghost use Rattle.fp_model.specs.Messages.{LineTooLong, TooManyLines, lines_of, line_fault};
 ghost use Rattle.fp_source.specs.Source.{ReadsOnly};
 ghost use Rattle.fp_lists.specs.Faults.{Counts};
-ghost use Rattle.fp_source.specs.Newlines.{HasLongLine, HasNoNewline, IsFirstPart, after_part};
+ghost use Rattle.fp_source.specs.inside.Newlines.{HasLongLine, HasNoNewline, IsFirstPart, after_part};
 
 use crate::{Failed, Part, Source};
 use fp_lists::Bytes;

@@ -23,7 +23,8 @@ pub struct MemorySource {
 }
 
 impl MemorySource {
-    ghost use Rattle.fp_source.specs.Memory.{calls_made, fails_at, memory_failures, memory_faults, memory_left, part_of};
+    ghost use Rattle.fp_source.specs.Memory.{calls_made, fails_at, memory_faults, memory_left, part_of};
+    ghost use Rattle.fp_source.specs.inside.Memory.{memory_failures};
 
     /// A source of these parts, in the order of `Part`, whose calls with these numbers, counted from 0, fail.
     pub fn new(

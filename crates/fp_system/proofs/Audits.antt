@@ -7,7 +7,8 @@ use Rattle.fp_site.proofs.Runs.{elapses_none}
 use Rattle.site_audit.specs.Legal.{IsBrokenAt, IsIllegalLog}
 use Rattle.site_audit.specs.declared.fault.AuditFault.{AuditFault}
 use Rattle.site_audit.specs.declared.fault.AuditFault.TheVariants as fault
-use Rattle.fp_system.specs.Answers.{MayStandIn, status_of_audit}
+use Rattle.fp_system.specs.Answers.{MayStandIn}
+use Rattle.fp_system.specs.inside.Answers.{status_of_audit}
 use Rattle.fp_system.specs.Gives.{Audited}
 use Rattle.fp_system.specs.Parts.{Job, front_for}
 use Rattle.fp_system.specs.Table.{ByEntries, IsForeign, illegal, of_none, torn}

@@ -17,7 +17,7 @@ use Rattle.fp_source.specs.declared.lines.Lines.{Lines}
 use Rattle.balancing.specs.Numbered.{Numbered}
 use Rattle.log_groups.specs.Log.{LogState}
 use Rattle.msdb_store.specs.Store.{Stored}
-use Rattle.fp_system.specs.Courses.{IsBegun}
+use Rattle.fp_system.specs.inside.Courses.{IsBegun}
 use Rattle.fp_model.specs.declared.database.Db.{Db}
 use Rattle.fp_model.specs.declared.database.Msdb.{Msdb}
 use Rattle.fp_model.specs.declared.log.Entry.{Entry}

@@ -9,7 +9,8 @@ use Rattle.fp_restart.specs.declared.fault.RestartFault.TheVariants as fault
 use Rattle.fp_lists.specs.Faults.{Rose}
 use Rattle.site_audit.specs.declared.fault.AuditFault.{AuditFault}
 use Rattle.site_audit.specs.declared.fault.AuditFault.TheVariants as unsound
-use Rattle.fp_system.specs.Answers.{status_of_audit, status_of_fault, status_of_stop}
+use Rattle.fp_system.specs.Answers.{status_of_stop}
+use Rattle.fp_system.specs.inside.Answers.{status_of_audit, status_of_fault}
 use Rattle.fp_system.specs.Causes.{IsCausedBySite, IsCausedBySource}
 use Rattle.fp_system.specs.declared.status.Status.{Status}
 use Rattle.fp_system.specs.declared.status.Status.TheVariants.{Done, Usage, Definitions, Scripts, Schedule, ReadFault, SiteFault, Foreign, Damaged, Line, NoMemory, NotBuilt, OldFormat, Illegal}

@@ -7,11 +7,12 @@ use Rattle.fp_restart.specs.declared.fault.RestartFault.{RestartFault}
 use Rattle.fp_restart.specs.declared.fault.RestartFault.TheVariants as fault
 use Rattle.log_groups.specs.Images.{BeginsFor, as_front}
 use Rattle.fp_system.specs.declared.parts.Setup.{Setup}
-use Rattle.fp_system.specs.Answers.{IsEarly, IsOfLog, IsOfParts, IsStop, MayStandIn, faulty_line, status_of_fault, status_of_stop}
+use Rattle.fp_system.specs.Answers.{IsEarly, IsOfLog, MayStandIn, faulty_line, status_of_stop}
+use Rattle.fp_system.specs.inside.Answers.{IsOfParts, IsStop, status_of_fault}
 use Rattle.fp_core.specs.declared.stop.Stop.{Stop}
 use Rattle.fp_core.specs.declared.stop.Stop.TheVariants as stop
 use Rattle.fp_system.specs.Parts.{front_for}
-use Rattle.fp_system.specs.Setups.{IsSetup, job_of}
+use Rattle.fp_system.specs.inside.Setups.{IsSetup, job_of}
 use Rattle.fp_system.specs.Table as table
 use Rattle.fp_system.specs.Table.{ByLog, foreign, damaged, good, IsBadFirst, IsEnd, IsGood, IsOld, IsSpared, end_of_lines}
 use Rattle.fp_system.specs.declared.status.Status.{Status}

@@ -11,7 +11,7 @@ use Rattle.fp_model.specs.declared.events.Event.{Event}
 use Rattle.fp_schedule.specs.Schedule.{event_of, events_of, first_fault, tokens_of}
 use Rattle.fp_schedule.specs.declared.fault.ScheduleFault.{ScheduleFault}
 use Rattle.fp_schedule.specs.declared.fault.ScheduleFault.TheVariants as unfit
-use Rattle.fp_system.specs.Setups.{HasEventsFor, IsRefusedSchedule}
+use Rattle.fp_system.specs.inside.Setups.{HasEventsFor, IsRefusedSchedule}
 use Rattle.command_words.specs.declared.words.Command.{Command}
 use Rattle.command_words.specs.declared.words.Command.TheVariants.{Define, Run, Show, Log, Migrate, Audit}
 use Rattle.std.proofs.lemmas.Bool.Decides.{nat_tests}
@@ -22,7 +22,8 @@ use Rattle.fp_model.specs.declared.definitions.Defs.{Defs}
 use Rattle.fp_model.specs.declared.scripts.Script.{Script}
 use Rattle.fp_source.specs.declared.part.Part.{Part}
 use Rattle.fp_source.specs.declared.part.Part.TheVariants as part
-use Rattle.fp_system.specs.Answers.{MayStandIn, status_of_definitions, status_of_schedule}
+use Rattle.fp_system.specs.Answers.{MayStandIn}
+use Rattle.fp_system.specs.inside.Answers.{status_of_definitions, status_of_schedule}
 use Rattle.fp_system.specs.Gives.{InOrder}
 use Rattle.fp_system.specs.Parts.{Job, HasEvents, HasSchedule, IsJob, Refuses, by_definitions, by_schedule, by_scripts, are_built, only_built, definitions_in}
 use Rattle.fp_system.specs.declared.status.Status.{Status}

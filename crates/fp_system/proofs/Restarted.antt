@@ -17,7 +17,7 @@ use Rattle.std.specs.Prelude.{List}
 use Rattle.fp_system.specs.declared.parts.Setup.{Setup}
 use Rattle.fp_system.specs.Courses.{IsSoundFor}
 use Rattle.fp_system.specs.Parts.{Job, front_for, front_in}
-use Rattle.fp_system.specs.Setups.{IsSetup, job_of}
+use Rattle.fp_system.specs.inside.Setups.{IsSetup, job_of}
 use Rattle.fp_system.specs.Table.{IsOld}
 use Rattle.fp_system.proofs.OldLogs.{old_only, old_where}
 

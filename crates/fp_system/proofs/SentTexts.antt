@@ -16,7 +16,8 @@ use Rattle.fp_site.specs.Disk.{Disk, IsLawful, Sends, Snapshot}
 use Rattle.fp_site.proofs.Runs.{elapses_none, started}
 use Rattle.site_texts.specs.Sent.{SyncsAndSends}
 use Rattle.site_texts.specs.Texts.{IsDbSent, IsSentToDamage, ReadsOnce, msdbs_text}
-use Rattle.fp_system.specs.Answers.{MayStandIn, status_of_fault}
+use Rattle.fp_system.specs.Answers.{MayStandIn}
+use Rattle.fp_system.specs.inside.Answers.{status_of_fault}
 use Rattle.fp_system.specs.Gives.{Logged, Shown}
 use Rattle.fp_system.specs.Parts.{Job, front_for}
 use Rattle.fp_system.specs.Table.{ByGroups, ByLog, IsForeign, IsGood, broken, damaged, foreign, good, of_others, whole}

@@ -30,7 +30,8 @@ use Rattle.schedule_runs.specs.Ways as way
 use Rattle.schedule_runs.specs.Ways.{Comes, next_event}
 use Rattle.sealed_runs.proofs.Parts.{entries_both}
 use Rattle.sealed_runs.proofs.SoundLogs.{groups_sound}
-use Rattle.fp_system.specs.Courses.{Course, GoesOnTo, Input, IsBegun, IsHistoryOf, IsKeptBy, IsSoundFor, Point, RanFrom, with_seals}
+use Rattle.fp_system.specs.Courses.{Course, GoesOnTo, Input, IsHistoryOf, IsKeptBy, IsSoundFor, Point, with_seals}
+use Rattle.fp_system.specs.inside.Courses.{IsBegun, RanFrom}
 use Rattle.fp_system.specs.Answers.{MayStandIn}
 use Rattle.fp_system.specs.Gives.{IsSafeFor, Went}
 use Rattle.fp_system.specs.Ims.{IsUnchanged}

@@ -1,9 +1,9 @@
 pub mod Texts
 pub mod Answers
 pub mod Parts
-pub mod Setups
 pub mod Courses
 pub mod Ims
 pub mod Table
 pub mod Causes
 pub mod Gives
+pub mod inside

@@ -8,7 +8,8 @@ use Rattle.fp_model.specs.declared.log.Outcome.TheVariants as outcome
 use Rattle.fp_model.specs.declared.log.Entry.{Entry}
 use Rattle.fp_model.specs.ItemTargets.{is_ascending}
 use Rattle.fp_model.specs.LogText.{HasItsParts, KeepsRules}
-use Rattle.log_format.specs.EntryReading.{stands_before, has_its_parts, keeps_rules}
+use Rattle.log_format.specs.EntryReading.{has_its_parts, keeps_rules}
+use Rattle.log_format.specs.inside.EntryReading.{stands_before}
 
 -- a list ascends where its first item stands before the next, and the rest ascends
 pub ascending_step : (item : Item) (more : List Item)

@@ -11,7 +11,7 @@ use Rattle.fp_model.specs.declared.log.Outcome.TheVariants as outcome
 use Rattle.fp_model.specs.declared.log.Entry.{Entry}
 use Rattle.fp_model.specs.Spellings.{be16, be32, be64, short_text, long_text}
 use Rattle.fp_model.specs.LogText.{outcome_text, item_text, notes_text, items_text, rest_text, entry_text, FitsItem}
-use Rattle.log_format.specs.Sizes.{long_size, outcome_size, item_size, notes_size, items_size, rest_size}
+use Rattle.log_format.specs.inside.Sizes.{long_size, outcome_size, item_size, notes_size, items_size, rest_size}
 use Rattle.log_format.proofs.Fields.{length-be16, length-be32, length-be64}
 
 -- a text behind its length in two bytes

@@ -1,12 +1,12 @@
 -- Reading entries of the log: outcomes, items, and whole entries that keep the rules.
-use Rattle.std.specs.Prelude.{ℕ, zero, suc, List, [], ◌∷◌, length, Option, Some, None, Bool, true, ◌&&◌, ◌==◌, if◌then◌else◌}
+use Rattle.std.specs.Prelude.{ℕ, zero, suc, List, length, Option, Some, None, Bool, true, ◌&&◌, ◌==◌, if◌then◌else◌}
 use Rattle.std.specs.Int.{w16, w32, w64}
 use Rattle.fp_model.specs.declared.log.Item.{Item}
 use Rattle.fp_model.specs.declared.log.Item.TheVariants.{Segment, Image, Range}
 use Rattle.fp_model.specs.declared.log.Outcome.{Outcome}
 use Rattle.fp_model.specs.declared.log.Outcome.TheVariants as outcome
 use Rattle.fp_model.specs.declared.log.Entry.{Entry}
-use Rattle.fp_model.specs.ItemTargets.{precedes, is_ascending}
+use Rattle.fp_model.specs.ItemTargets.{is_ascending}
 use Rattle.log_format.specs.Reading.{byte_at, number_at, part_at, short_at, long_at, counted_at}
 use Rattle.fp_model.specs.Values.{◌>>=◌}
 
@@ -89,23 +89,6 @@ item_at bytes = do
   kind ← byte_at bytes
   kind_at kind.0 kind.1
 
--- the rest of an entry from its notes on, behind these parts
-unfoldable pub lists_at : ℕ → Outcome → List ℕ → List ℕ → List ℕ → Option (Entry × List ℕ)
-lists_at from outcome line reply rest = do
-  notes ← counted_at (number_at w64) rest
-  items ← counted_at item_at notes.1
-  Some (
-    record { from = from; outcome = outcome; line = line; reply = reply; notes = notes.0; items = items.0 },
-    items.1,
-  )
-
--- the rest of an entry from its line on, behind these parts
-unfoldable pub texts_at : ℕ → Outcome → List ℕ → Option (Entry × List ℕ)
-texts_at from outcome rest = do
-  line ← long_at rest
-  reply ← long_at line.1
-  lists_at from outcome line.0 reply.0 reply.1
-
 -- an entry behind its length, whether it keeps the rules or not
 unfoldable pub rest_at : List ℕ → Option (Entry × List ℕ)
 rest_at bytes = do
@@ -119,11 +102,6 @@ rest_at bytes = do
     record { from = from.0; outcome = outcome.0; line = line.0; reply = reply.0; notes = notes.0; items = items.0 },
     items.1,
   )
-
--- whether an item stands before the first of a list
-abbrev pub stands_before : Item → List Item → Bool
-stands_before item [] = true
-stands_before item (next ∷ more) = precedes item next
 
 -- whether the reply and the items are those that the outcome allows
 abbrev pub has_its_parts : Outcome → List ℕ → List Item → Bool

@@ -1,5 +1,5 @@
 pub mod Reading
 pub mod Laws
-pub mod Sizes
 pub mod EntryReading
 pub mod Faults
+pub mod inside

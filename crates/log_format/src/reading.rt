@@ -9,7 +9,8 @@ ghost use Rattle.fp_model.specs.LogText.{HasSpelling, body_text};
 ghost use Rattle.fp_model.specs.ItemTargets.{precedes, is_ascending};
 ghost use Rattle.fp_model.specs.declared.log.Entry.{Entry as EntryOf};
 ghost use Rattle.log_format.specs.EntryReading.{some_long_at, seq_full_at, detail_at, outcome_at, kind_at, item_at};
-ghost use Rattle.log_format.specs.EntryReading.{lists_at, texts_at, rest_at, stands_before, has_its_parts, keeps_rules, whole_at, entry_at};
+ghost use Rattle.log_format.specs.EntryReading.{rest_at, has_its_parts, keeps_rules, whole_at, entry_at};
+ghost use Rattle.log_format.specs.inside.EntryReading.{lists_at, texts_at, stands_before};
 ghost use Rattle.log_format.specs.Faults.{Spells, IsCause, IsReadAs};
 ghost use Rattle.log_format.specs.Reading.{Gives, many_at, counted_at};
 ghost use Rattle.std.specs.Prelude.{◌≡◌, if◌then◌else◌, IfOk, IfErr, None, Some, List as ListOf};
@@ -196,7 +197,7 @@ fn items_of(alloc: Global, bytes: &[u8]) -> Result<(List<Item>, &[u8]), ReadErro
     many_items_of(alloc, count, rest)
 }
 
-#[tactic(auto, unfolding(crate::specs::EntryReading::lists_at))]
+#[tactic(auto, unfolding(crate::specs::inside::EntryReading::lists_at))]
 fn lists_of(
     alloc: Global,
     from: u64,
@@ -220,7 +221,7 @@ fn lists_of(
     Ok((e, rest))
 }
 
-#[tactic(auto, unfolding(crate::specs::EntryReading::texts_at))]
+#[tactic(auto, unfolding(crate::specs::inside::EntryReading::texts_at))]
 fn texts_of(
     alloc: Global,
     from: u64,
@@ -234,7 +235,7 @@ fn texts_of(
     lists_of(alloc, from, outcome, line, reply, rest)
 }
 
-#[tactic(auto, unfolding(crate::specs::EntryReading::rest_at, crate::specs::EntryReading::texts_at, crate::specs::EntryReading::lists_at))]
+#[tactic(auto, unfolding(crate::specs::EntryReading::rest_at, crate::specs::inside::EntryReading::texts_at, crate::specs::inside::EntryReading::lists_at))]
 fn rest_of(alloc: Global, bytes: &[u8]) -> Result<(Entry, &[u8]), ReadError>
     ensures { Gives (λ x. (x.0, x.1.now)) result (rest_at bytes.now) }
 {

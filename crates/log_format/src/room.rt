@@ -3,7 +3,7 @@
 //! Each says how many bytes it wrote, so that room for a whole is room for its parts.
 ghost use Rattle.fp_model.specs.Spellings.{be16, be32, be64, short_text, long_text};
 ghost use Rattle.fp_model.specs.LogText.{IsBytes, notes_text};
-ghost use Rattle.log_format.specs.Sizes.{long_size, notes_size, short_size};
+ghost use Rattle.log_format.specs.inside.Sizes.{long_size, notes_size, short_size};
 ghost use Rattle.std.specs.List.{AllByRecursion};
 ghost use Rattle.std.specs.Prelude.{◌≡◌, ◌+◌, ◌<◌, ◌≤◌, ◌^◌, [], ◌∷◌, ◌++◌, length, vec_capacity, vec_len};
 

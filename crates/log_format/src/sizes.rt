@@ -1,6 +1,6 @@
 //! How many bytes an entry has in the log.
 ghost use Rattle.fp_model.specs.LogText.{FitsEntry, FitsItem, FitsOutcome, entry_text};
-ghost use Rattle.log_format.specs.Sizes.{item_size, items_size, outcome_size, rest_size};
+ghost use Rattle.log_format.specs.inside.Sizes.{item_size, items_size, outcome_size, rest_size};
 ghost use Rattle.std.specs.List.{AllByRecursion};
 ghost use Rattle.std.specs.Prelude.{◌≡◌, ◌+◌, ◌<◌, ◌≤◌, ◌^◌, length};
 

@@ -34,7 +34,7 @@ ghost use Rattle.fp_model.specs.LogText.{outcome_text, item_text, items_text, re
 ghost use Rattle.fp_model.specs.LogText.{FitsEntry, FitsItem, FitsOutcome, HasSpelling, IsEntry, IsItem, IsOutcome, KeepsRules};
 ghost use Rattle.fp_model.specs.Spellings.{be16, be32, be64};
 ghost use Rattle.fp_model.specs.declared.log.Outcome.TheVariants.{SeqFull};
-ghost use Rattle.log_format.specs.Sizes.{item_size, items_size, outcome_size, rest_size};
+ghost use Rattle.log_format.specs.inside.Sizes.{item_size, items_size, outcome_size, rest_size};
 ghost use Rattle.std.specs.List.{AllByRecursion};
 ghost use Rattle.std.specs.Prelude.{◌≡◌, ◌+◌, ◌<◌, ◌≤◌, ◌^◌, ◌++◌, IsOk, OnOk, OnErr, length, vec_capacity, vec_len};
 

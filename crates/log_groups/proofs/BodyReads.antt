@@ -8,13 +8,14 @@ use Rattle.fp_model.specs.Spellings.{be64}
 use Rattle.fp_model.specs.LogText.{body_text}
 use Rattle.fp_model.specs.Groups.{IsDamaged}
 use Rattle.fp_site.specs.Disk.{read_range}
-use Rattle.fp_site.specs.Written.{get_or-append_zeros}
+use Rattle.fp_site.specs.inside.Written.{get_or-append_zeros}
 use Rattle.log_format.specs.Faults.{Spells, IsFirstBad}
 use Rattle.log_format.proofs.Fields.{length-be64}
 use Rattle.log_format.proofs.Bodies.{not_bad}
 use Rattle.log_format.proofs.GroupLaws.{no_body, past_end, no_length, no_bytes, one_number}
 use Rattle.log_groups.specs.declared.fault.LogFault.TheVariants.{Damaged}
-use Rattle.log_groups.specs.Reads.{HasLength, HasBody, HasGroup}
+use Rattle.log_groups.specs.Reads.{HasGroup}
+use Rattle.log_groups.specs.inside.Reads.{HasLength, HasBody}
 
 -- a byte that is read alone
 pub byte_read : (bytes : List ℕ) (at : ℕ) → slice_index (read_range bytes at 1) 0 ≡ slice_index bytes at

@@ -11,7 +11,7 @@ use Rattle.fp_model.specs.Spellings.{be32, be64, long_text}
 use Rattle.fp_model.specs.LogText.{HasSpelling, outcome_text, item_text, notes_text, items_text, rest_text, entry_text, body_text}
 use Rattle.log_format.proofs.Fields.{length-be32, length-be64}
 use Rattle.log_format.proofs.GroupLaws.{one_number}
-use Rattle.log_groups.specs.Log.{HasEntries}
+use Rattle.log_groups.specs.inside.Log.{HasEntries}
 
 -- a buffer with a length in front of a part and a closed gate behind it
 module _ (xs m : List ℕ) (start end : ℕ) (header : 8 ≤ start) (order : start ≤ end) (inside : end < length xs)

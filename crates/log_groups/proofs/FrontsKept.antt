@@ -4,7 +4,7 @@ use Rattle.std.proofs.lemmas.List.{length-append, length-drop, length-take, take
 use Rattle.fp_site.specs.Disk.{Disk, IsDurable}
 use Rattle.fp_model.specs.LogText.{Front, front_rest, front_text, first_gate, log_text}
 use Rattle.gated_write.specs.Gates.{with_body}
-use Rattle.log_groups.specs.Images.{IsOpened}
+use Rattle.log_groups.specs.inside.Images.{IsOpened}
 
 -- after the last sync the gate is open, and the bytes stand behind it
 pub opened_from : (old : List ℕ) (gate : ℕ) (ready : List ℕ) → gate ≤ length old → (new : Disk) → IsDurable new 0

@@ -9,7 +9,8 @@ use Rattle.fp_model.specs.declared.log.Entry.{Entry}
 use Rattle.fp_model.specs.LogText.{Front, front_text, group_text, groups_text}
 use Rattle.fp_model.specs.Groups.{IsGroup, HoldsGroups}
 use Rattle.fp_model.specs.Recovery.{Holds}
-use Rattle.log_groups.specs.Images.{IsLog, before_gate, gate_behind}
+use Rattle.log_groups.specs.Images.{IsLog, gate_behind}
+use Rattle.log_groups.specs.inside.Images.{before_gate}
 use Rattle.log_groups.specs.Reads.{HasGroup}
 
 -- the byte at a place is the first from there on

@@ -20,8 +20,10 @@ use Rattle.log_format.proofs.Fields.{length-be64}
 use Rattle.log_format.proofs.Lists.{many_again}
 use Rattle.log_format.proofs.EntryLaws.{entry_law}
 use Rattle.gated_write.specs.Gates.{IsGatedImage}
-use Rattle.log_groups.specs.Images.{IsLog, IsAtRest, IsWithOrWithout, IsBeforeOrAfter, IsGated, IsOpened, SpellsGroup, gate_behind, with_group, with_group_at}
-use Rattle.log_groups.specs.Log.{IsBuffered, values_of, entries_in, part_text}
+use Rattle.log_groups.specs.Images.{IsLog, IsAtRest, IsWithOrWithout, IsBeforeOrAfter, gate_behind, with_group, with_group_at}
+use Rattle.log_groups.specs.inside.Images.{IsGated, IsOpened, SpellsGroup}
+use Rattle.log_groups.specs.Log.{IsBuffered, values_of, entries_in}
+use Rattle.log_groups.specs.inside.Log.{part_text}
 use Rattle.log_groups.proofs.LogImages.{all-append, head_is, closed_front, open_front}
 use Rattle.log_groups.proofs.BufferParts.{all-drop, all-take, length-entry}
 

@@ -2,11 +2,9 @@
 use Rattle.std.specs.Prelude.{◌≡◌, ◌≢◌, ◌⊎◌, ℕ, ◌+◌, ◌<◌, List, [], ◌∷◌, ◌++◌, length, take, drop, slice_index}
 use Rattle.fp_site.specs.Disk.{Disk, Snapshot, IsDurable, Settles}
 use Rattle.fp_model.specs.declared.log.Entry.{Entry}
-use Rattle.fp_model.specs.Spellings.{be64}
-use Rattle.fp_model.specs.LogText.{Front, IsFormat, StartsWithFront, first_gate, front_text, body_text, group_text, groups_text}
-use Rattle.fp_model.specs.Groups.{Groups, IsGroup, Reads}
+use Rattle.fp_model.specs.LogText.{Front, IsFormat, StartsWithFront, first_gate, group_text}
+use Rattle.fp_model.specs.Groups.{Groups, Reads}
 use Rattle.fp_model.specs.Recovery.{Holds}
-use Rattle.gated_write.specs.Gates.{IsGatedImage}
 use Rattle.log_groups.specs.declared.front.Front.{Front as Kept}
 
 -- the front that a program's values are
@@ -47,10 +45,6 @@ IsFrontOf old gate image = take gate image ≡ take gate old
 abbrev pub HasFrontOf : List ℕ → ℕ → Snapshot → Type 0
 HasFrontOf old gate s = IsFrontOf old gate (s.images 0)
 
--- the bytes in front of a log's closed gate
-abbrev pub before_gate : Front → List (List Entry) → List ℕ
-before_gate front groups = front_text 1 front ++ groups_text groups
-
 -- a disk whose log is this one, so that every crash leaves it
 pub record IsAtRest (disk : Disk) (front : Front) (groups : List (List Entry)) (gate : ℕ) : Type 0 where
   pub durable : IsDurable disk 0
@@ -78,24 +72,6 @@ IsWithOrWithout front groups gate entries image =
 -- the log that a crash left has these groups, or one more, whole
 abbrev pub IsBeforeOrAfter : Front → List (List Entry) → ℕ → List Entry → Snapshot → Type 0
 IsBeforeOrAfter front groups gate entries s = IsWithOrWithout front groups gate entries (s.images 0)
-
--- a group as it is written behind its gate: the length of the body, the body, and the next gate, closed
-pub record SpellsGroup (bytes : List ℕ) (entries : List Entry) : Type 0 where
-  pub group : IsGroup entries
-  pub text : bytes ≡ be64 (length (body_text entries)) ++ (body_text entries ++ 0 ∷ [])
-
--- the log that a crash leaves within a gated write
-abbrev pub IsGated : List ℕ → ℕ → List ℕ → Snapshot → Type 0
-IsGated old gate bytes s = IsGatedImage old gate bytes (s.images 0)
-
--- after a gated write the gate is open, and every crash leaves it so
-pub record IsOpened (old : List ℕ) (gate : ℕ) (bytes : List ℕ) (new : Disk) : Type 0 where
-  pub durable : IsDurable new 0
-  pub front : take gate (new.contents 0) ≡ take gate old
-  pub rest : List ℕ
-  pub behind : drop gate (new.contents 0) ≡ 1 ∷ (bytes ++ rest)
-  -- behind the bytes is what stood there before
-  pub stood : rest ≡ drop (gate + 1 + length bytes) old
 
 -- the front's gate is there, and isn't open
 pub record IsShutGate (bytes : List ℕ) : Type 0 where

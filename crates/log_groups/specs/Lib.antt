@@ -2,3 +2,4 @@ pub mod Images
 pub mod Kept
 pub mod Log
 pub mod Reads
+pub mod inside

@@ -1,9 +1,8 @@
 -- What contracts see of a log that is open, and how its buffer keeps that.
-use Rattle.std.specs.Prelude.{◌≡◌, ℕ, ◌+◌, ◌-◌, ◌*◌, ◌^◌, ◌≤◌, List, [], ◌∷◌, ◌++◌, length, drop, take, Option, Some, None, Vec, vec_len, vec_capacity}
+use Rattle.std.specs.Prelude.{◌≡◌, ℕ, ◌+◌, ◌*◌, ◌^◌, ◌≤◌, List, [], ◌∷◌, ◌++◌, length, drop, Option, Some, None, Vec, vec_len, vec_capacity}
 use Rattle.std.specs.List.{AllByRecursion}
 use Rattle.std.specs.declared.alloc.Global.{Global}
 use Rattle.fp_model.specs.declared.log.Entry.{Entry}
-use Rattle.fp_model.specs.Spellings.{be64}
 use Rattle.fp_model.specs.LogText.{HasSpelling, body_text}
 use Rattle.log_format.specs.Reading.{many_at}
 use Rattle.log_format.specs.EntryReading.{entry_at}
@@ -38,14 +37,3 @@ pub record IsBuffered (buffer : Vec ℕ Global) (start waiting sealed gate spare
     -- what is sealed from here on ends before the last place of a data set
     pub limit : gate + 2 * (length (body_text entries) + spare) ≤ 2 ^ 62
     pub fewer : sealed ≤ gate
-
--- a part of the buffer as a group is written: its length, the part, and a closed gate
-abbrev pub part_text : List ℕ → ℕ → ℕ → List ℕ
-part_text buffer start end = be64 (end - start) ++ (take (end - start) (drop start buffer) ++ 0 ∷ [])
-
--- from a place on a buffer has so many entries or more, and a closed gate
-pub record HasEntries (buffer : List ℕ) (start count : ℕ) : Type 0 where
-  pub entries : List Entry
-  pub each : AllByRecursion HasSpelling entries
-  pub count_is : count ≤ length entries
-  pub text : drop start buffer ≡ body_text entries ++ 0 ∷ []

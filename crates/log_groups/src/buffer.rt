@@ -5,10 +5,11 @@ ghost use Rattle.fp_site.specs.Moments.{OnlyOn, Through};
 ghost use Rattle.fp_site.specs.Site.{ReadsNothing};
 ghost use Rattle.fp_lists.specs.Faults.{Counts};
 ghost use Rattle.gated_write.specs.Gates.{IsGatedImage};
-ghost use Rattle.log_groups.specs.Images.{HasFrontOf, IsFrontOf, IsGated, IsOpened};
+ghost use Rattle.log_groups.specs.Images.{HasFrontOf, IsFrontOf};
+ghost use Rattle.log_groups.specs.inside.Images.{IsGated, IsOpened};
 ghost use Rattle.fp_model.specs.LogText.{FitsEntry, HasSpelling, KeepsRules, body_text, entry_text};
 ghost use Rattle.fp_model.specs.declared.log.Entry.{Entry as EntryOf};
-ghost use Rattle.log_groups.specs.Log.{HasEntries, part_text};
+ghost use Rattle.log_groups.specs.inside.Log.{HasEntries, part_text};
 ghost use Rattle.std.specs.List.{AllByRecursion};
 ghost use Rattle.std.specs.Prelude.{◌≡◌, ◌⊎◌, ◌+◌, ◌-◌, ◌<◌, ◌≤◌, ◌^◌, ◌∷◌, ◌++◌, ℕ, [], List as ListOf, OnOk, drop, length, slice_index, slice_set, take, vec_capacity, vec_len};
 

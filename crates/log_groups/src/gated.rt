@@ -4,7 +4,8 @@ ghost use Rattle.fp_site.specs.Moments.{OnlyOn, Through};
 ghost use Rattle.fp_site.specs.Site.{ReadsNothing};
 ghost use Rattle.fp_lists.specs.Faults.{Counts};
 ghost use Rattle.gated_write.specs.Gates.{IsGatedImage};
-ghost use Rattle.log_groups.specs.Images.{HasFrontOf, IsFrontOf, IsGated, IsOpened};
+ghost use Rattle.log_groups.specs.Images.{HasFrontOf, IsFrontOf};
+ghost use Rattle.log_groups.specs.inside.Images.{IsGated, IsOpened};
 ghost use Rattle.std.specs.Prelude.{◌≡◌, ◌⊎◌, ◌+◌, ◌-◌, ◌<◌, ◌≤◌, ◌^◌, ◌∷◌, ◌++◌, ℕ, List as ListOf, OnOk, length};
 
 use fp_site::{Failed, Site};

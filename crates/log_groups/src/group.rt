@@ -4,7 +4,8 @@ ghost use Rattle.fp_model.specs.Spellings.{be64};
 ghost use Rattle.fp_model.specs.declared.log.Entry.{Entry as EntryOf};
 ghost use Rattle.fp_site.specs.Disk.{Disk, Stays};
 ghost use Rattle.fp_lists.specs.Faults.{Counts};
-ghost use Rattle.log_groups.specs.Reads.{HasBody, HasGroup, HasLength, ReadsOnlyLog};
+ghost use Rattle.log_groups.specs.Reads.{HasGroup, ReadsOnlyLog};
+ghost use Rattle.log_groups.specs.inside.Reads.{HasBody, HasLength};
 ghost use Rattle.log_groups.specs.declared.fault.LogFault.TheVariants as faults;
 ghost use Rattle.std.specs.Prelude.{
   ◌≡◌,

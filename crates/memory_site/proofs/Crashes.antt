@@ -7,7 +7,7 @@ use Rattle.std.proofs.Math.Seq.{take-length}
 use Rattle.fp_site.specs.Disk.{Snapshot, Disk, IsDurable, Broken, Leaves, written, Torn, Differs, Settles, Sends, Elapses, covers}
 use Rattle.memory_site.specs.History.{Event, History, Image, MayLeave, MayLeaveWithin, LeftSince, contents_after, synced_after, is_touched, longest_end, sent_after, disk_of}
 use Rattle.memory_site.specs.History.Event.{Opened, Wrote, Synced, Sent}
-use Rattle.memory_site.specs.Past.{Breaks}
+use Rattle.memory_site.specs.inside.Past.{Breaks}
 use Rattle.fp_site.specs.Written.{length-written, written_other}
 use Rattle.memory_site.specs.Laws.{outside, same_set, other_set, contents_image}
 use Rattle.fp_site.proofs.Runs.{elapses_weaker}

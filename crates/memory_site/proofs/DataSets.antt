@@ -4,7 +4,8 @@ use Rattle.std.proofs.Common.{◌≡◌, ℕ, zero, suc, ◌+◌, ◌<◌, ◌�
 use Rattle.std.specs.declared.alloc.Global.{Global}
 use Rattle.fp_site.specs.Disk.{read_range}
 use Rattle.memory_site.specs.Sets.{set_bytes, image_at}
-use Rattle.fp_site.specs.Written.{zeros, get_or-append_zeros}
+use Rattle.fp_site.specs.Written.{zeros}
+use Rattle.fp_site.specs.inside.Written.{get_or-append_zeros}
 
 abbrev Sets : Type 0
 Sets = List (Vec ℕ Global)

@@ -2,7 +2,8 @@
 use Rattle.std.proofs.Common.{◌≡◌, ◌<◌, ℕ, ◌+◌, ◌-◌, ◌≤◌, List, ◌++◌, length, get_or, take, drop, sym, ◌∙◌, ap, arith, append_assoc}
 use Rattle.std.proofs.lemmas.List.{ext_get_or, length-take, length-drop, length-append, length-replicate, get_or-take, get_or-drop}
 use Rattle.fp_site.specs.Disk.{written}
-use Rattle.fp_site.specs.Written.{zeros, get_or-append_zeros, written_some}
+use Rattle.fp_site.specs.Written.{zeros}
+use Rattle.fp_site.specs.inside.Written.{get_or-append_zeros, written_some}
 
 module _ (old padded : List ℕ) (at : ℕ) (bytes : List ℕ) (some : 1 ≤ length bytes)
     (is : padded ≡ old ++ zeros (at + length bytes - length old)) where

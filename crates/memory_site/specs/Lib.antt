@@ -5,3 +5,4 @@ pub mod Sets
 pub mod Laws
 pub mod Past
 pub mod Memory
+pub mod inside

@@ -1,8 +1,7 @@
 -- What a site in memory has been through, as a history.
-use Rattle.std.specs.Prelude.{◌≡◌, ℕ, ◌+◌, ◌≤◌, List, ◌∷◌, length, vec_capacity, vec_len}
+use Rattle.std.specs.Prelude.{ℕ, ◌+◌, ◌≤◌, vec_capacity, vec_len}
 use Rattle.memory_site.specs.declared.past.Past.{Past}
 use Rattle.memory_site.specs.History.{History}
-use Rattle.memory_site.specs.History.Event.{Wrote}
 use Rattle.memory_site.specs.Calls.{history_of}
 
 -- the history of its calls
@@ -13,9 +12,3 @@ past_of past = history_of past.start past.calls.items past.kept.items
 pub record HasRoom (past : Past) (calls bytes : ℕ) : Type 0 where
   pub calls_fit : vec_len past.calls + calls ≤ vec_capacity past.calls
   pub bytes_fit : vec_len past.kept + bytes ≤ vec_capacity past.kept
-
--- a write that failed: some bytes of its length were written
-pub record Breaks (set at count : ℕ) (old new : History) : Type 0 where
-  pub left : List ℕ
-  pub as_long : length left ≡ count
-  pub noted : new ≡ Wrote set at left ∷ old

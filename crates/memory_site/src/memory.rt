@@ -8,7 +8,8 @@ ghost use Rattle.fp_lists.specs.Faults.{Counts};
 ghost use Rattle.memory_site.specs.History.{contents_after, disk_of, sent_after, synced_after};
 ghost use Rattle.memory_site.specs.History.Event.{Wrote, Synced, Sent};
 ghost use Rattle.memory_site.specs.Sets.{set_bytes, snapshot_of};
-ghost use Rattle.memory_site.specs.Past.{past_of, Breaks};
+ghost use Rattle.memory_site.specs.Past.{past_of};
+ghost use Rattle.memory_site.specs.inside.Past.{Breaks};
 ghost use Rattle.memory_site.specs.Faults.{is_told};
 ghost use Rattle.memory_site.specs.Laws.{lawful, bounded_by};
 

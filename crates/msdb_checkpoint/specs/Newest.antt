@@ -1,5 +1,5 @@
 -- Which data set has the newest open checkpoint, and what is wrong with one.
-use Rattle.std.specs.Prelude.{◌≡◌, ◌≢◌, ◌⊎◌, ℕ, ◌<◌, ◌≤◌, ◌++◌, List, length, drop, Option, Some, None, slice_index}
+use Rattle.std.specs.Prelude.{◌≡◌, ◌≢◌, ◌⊎◌, ℕ, ◌<◌, ◌≤◌, ◌++◌, List, length, drop, Some, None, slice_index}
 use Rattle.checkpoint_format.specs.Given.{loaded_as}
 use Rattle.checkpoint_format.specs.Reading.{head_at, rest_at}
 use Rattle.checkpoint_format.specs.declared.checkpoint.Loaded.{Loaded}
@@ -33,14 +33,6 @@ pub record IsNewest (contents : ℕ → List ℕ) (set : ℕ) : Type 0 where
   pub has : HasNumber (contents set) number
   pub other : IsNotOpen (contents (other_set set))
       ⊎ ((m : ℕ) × HasNumber (contents (other_set set)) m × (m ≤ number) × (set ≡ 2 → m < number))
-
--- the data set of the newer of two numbers; of equal ones it is 1
-abbrev pub IsNewer : Option ℕ → Option ℕ → Option ℕ → Type 0
-IsNewer None None found = found ≡ None
-IsNewer None (Some second) found = found ≡ Some 2
-IsNewer (Some first) None found = found ≡ Some 1
-IsNewer (Some first) (Some second) found =
-    ((second ≤ first) × (found ≡ Some 1)) ⊎ ((first < second) × (found ≡ Some 2))
 
 -- what stands behind the gate is a checkpoint of these databases, this one
 abbrev pub HasCheckpoint : List MsdbDef → List ℕ → Loaded → Type 0

@@ -40,21 +40,11 @@ steps_left body Begun = pieces (length body) + 3
 steps_left body (Written count) = pieces (length body - count) + 2
 steps_left body Synced = 1
 
--- none where it is sure
-abbrev pub left_behind : List ℕ → Option Stage → ℕ
-left_behind body None = 0
-left_behind body (Some stage) = steps_left body stage
-
 -- a data set with an open checkpoint of these bytes, and every crash leaves it so
 pub record IsSure (body : List ℕ) (set : ℕ) (disk : Disk) : Type 0 where
   pub durable : IsDurable disk set
   pub rest : List ℕ
   pub is : disk.contents set ≡ 1 ∷ (body ++ rest)
-
--- what the next step finds: a further stage, or a checkpoint that is sure
-abbrev pub IsNext : List ℕ → ℕ → Disk → Option Stage → Type 0
-IsNext body set disk None = IsSure body set disk
-IsNext body set disk (Some stage) = IsAt body set disk stage
 
 -- An image of the data set that is written: as a sync might have left it before, or with its gate closed, or with the
 -- checkpoint open and whole.

@@ -22,7 +22,7 @@ use Rattle.fp_model.specs.declared.definitions.FieldDef.{FieldDef}
 use Rattle.fp_model.specs.declared.definitions.MsdbDef.{MsdbDef}
 use Rattle.fp_model.specs.declared.log.Item.TheVariants.{Segment}
 use Rattle.msdb_store.specs.Settling.{has_bytes, key_in}
-use Rattle.msdb_store.specs.Steps.{IsChanged, IsGiven, given_as}
+use Rattle.msdb_store.specs.inside.Steps.{IsChanged, IsGiven, given_as}
 use Rattle.msdb_store.specs.Store.{IsFitSegment, IsOf, Stored, segment_in}
 use Rattle.key_order.proofs.Ascending.{not_both, same_is, stands_there}
 use Rattle.msdb_store.proofs.Tables.{belongs, stored, with_room}

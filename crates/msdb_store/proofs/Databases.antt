@@ -11,7 +11,7 @@ use Rattle.fp_model.specs.declared.database.Msdb.{Msdb}
 use Rattle.fp_model.specs.declared.definitions.MsdbDef.{MsdbDef}
 use Rattle.fp_model.specs.declared.log.Item.TheVariants.{Segment}
 use Rattle.msdb_store.specs.Store.{IsFitSegment, segment_in}
-use Rattle.msdb_store.specs.Touches.{made}
+use Rattle.msdb_store.specs.inside.Touches.{made}
 use Rattle.key_order.proofs.Ascending.{differ}
 use Rattle.msdb_store.proofs.Lookups.{find_dropped, find_put, same_list}
 use Rattle.msdb_store.proofs.Tables.{with_good, without_good}

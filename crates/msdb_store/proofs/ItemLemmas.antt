@@ -14,7 +14,8 @@ use Rattle.fp_model.specs.declared.log.Item.{Item}
 use Rattle.fp_model.specs.declared.log.Item.TheVariants.{Segment, Image, Range}
 use Rattle.msdb_store.specs.Settling.{HasItem, IsSegmentItem}
 use Rattle.msdb_store.specs.Store.{IsFitSegment, segment_in}
-use Rattle.msdb_store.specs.Touches.{Touch, made}
+use Rattle.msdb_store.specs.Touches.{Touch}
+use Rattle.msdb_store.specs.inside.Touches.{made}
 use Rattle.key_order.proofs.Ascending.{below_differs, differs_back, not_below_itself, not_both}
 use Rattle.msdb_store.proofs.Databases.{AreOf, item_good}
 use Rattle.msdb_store.proofs.Publishing.{Before, before_trans, order_behind, split}

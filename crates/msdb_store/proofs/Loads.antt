@@ -12,7 +12,7 @@ use Rattle.fp_model.specs.declared.database.Msdb.{Msdb}
 use Rattle.fp_model.specs.declared.definitions.FieldDef.{FieldDef}
 use Rattle.fp_model.specs.declared.definitions.MsdbDef.{MsdbDef}
 use Rattle.key_order.proofs.Ascending.{all_put}
-use Rattle.msdb_store.specs.Putting.{AreFew}
+use Rattle.msdb_store.specs.inside.Putting.{AreFew}
 use Rattle.msdb_store.proofs.Rooms.{few_push}
 use Rattle.msdb_store.proofs.Tables.{with_good}
 

@@ -8,7 +8,8 @@ use Rattle.fp_model.specs.declared.definitions.MsdbDef.{MsdbDef}
 use Rattle.fp_model.specs.declared.log.Item.{Item}
 use Rattle.fp_model.specs.declared.log.Item.TheVariants.{Segment, Image, Range}
 use Rattle.msdb_store.specs.Settling.{HasItem, IsNamed, named}
-use Rattle.msdb_store.specs.Touches.{Touch, bytes_at, has_key, item_of}
+use Rattle.msdb_store.specs.Touches.{Touch}
+use Rattle.msdb_store.specs.inside.Touches.{bytes_at, has_key, item_of}
 use Rattle.key_order.proofs.Ascending.{is_same, same_is}
 use Rattle.msdb_store.proofs.Queues.{names}
 use Rattle.msdb_store.proofs.Stagings.{first_true, is_number, number_is, second_true}

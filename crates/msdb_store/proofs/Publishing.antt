@@ -13,10 +13,11 @@ use Rattle.fp_model.specs.declared.definitions.MsdbDef.{MsdbDef}
 use Rattle.fp_model.specs.declared.log.Item.{Item}
 use Rattle.fp_model.specs.declared.log.Item.TheVariants.{Segment, Image, Range}
 use Rattle.msdb_store.specs.Changes.{Changes}
-use Rattle.msdb_store.specs.Putting.{AreFew, CanPut, KeepsRoom}
+use Rattle.msdb_store.specs.inside.Putting.{AreFew, CanPut, KeepsRoom}
 use Rattle.msdb_store.specs.Settling.{IsSegmentItem, IsStaged, adds, has_bytes}
 use Rattle.msdb_store.specs.Store.{IsFitSegment, IsOf, Stored, segment_in}
-use Rattle.msdb_store.specs.Touches.{Touch, made}
+use Rattle.msdb_store.specs.Touches.{Touch}
+use Rattle.msdb_store.specs.inside.Touches.{made}
 use Rattle.key_order.proofs.Ascending.{below_differs, below_trans, not_both}
 use Rattle.msdb_store.proofs.Stagings.{behind_item, first_true, is_number, number_is, second_true}
 

@@ -20,10 +20,11 @@ use Rattle.fp_model.specs.declared.database.Msdb.{Msdb}
 use Rattle.fp_model.specs.declared.definitions.MsdbDef.{MsdbDef}
 use Rattle.fp_model.specs.declared.log.Item.{Item}
 use Rattle.msdb_store.specs.Settling.{CanSettle, IsAnswer, IsSegmentItem, IsStaged, adds, named}
-use Rattle.msdb_store.specs.Faults.{fault_at}
-use Rattle.msdb_store.specs.Steps.{AtCall, IsGiven, IsStep, Stages}
+use Rattle.msdb_store.specs.inside.Faults.{fault_at}
+use Rattle.msdb_store.specs.inside.Steps.{AtCall, IsGiven, IsStep, Stages}
 use Rattle.msdb_store.specs.Store.{IsFitSegment, Stored, segment_in}
-use Rattle.msdb_store.specs.Touches.{AreInOrder, Touch, bytes_at, has_key, item_of, made, put_touch, seen, touch_cmp}
+use Rattle.msdb_store.specs.Touches.{Touch}
+use Rattle.msdb_store.specs.inside.Touches.{AreInOrder, bytes_at, has_key, item_of, made, put_touch, seen, touch_cmp}
 use Rattle.msdb_store.proofs.Databases.{item_good, same_databases}
 use Rattle.msdb_store.proofs.Stagings.{at_put, behind_item, long_put, none_staged, one_staged, shown, ties}
 

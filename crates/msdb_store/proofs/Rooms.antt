@@ -8,9 +8,10 @@ use Rattle.fp_model.specs.declared.database.Msdb.{Msdb}
 use Rattle.fp_model.specs.declared.definitions.FieldDef.{FieldDef}
 use Rattle.fp_model.specs.declared.definitions.MsdbDef.{MsdbDef}
 use Rattle.fp_model.specs.declared.log.Item.TheVariants.{Segment}
-use Rattle.msdb_store.specs.Putting.{AreFew}
+use Rattle.msdb_store.specs.inside.Putting.{AreFew}
 use Rattle.msdb_store.specs.Settling.{adds, has_bytes}
-use Rattle.msdb_store.specs.Store.{IsFitSegment, IsOf, lacks, least, room}
+use Rattle.msdb_store.specs.Store.{IsFitSegment, IsOf, least, room}
+use Rattle.msdb_store.specs.inside.Store.{lacks}
 use Rattle.msdb_store.proofs.Databases.{in_at, key_is}
 use Rattle.msdb_store.proofs.Tables.{belongs, msdb_in, stored}
 use Rattle.std.proofs.lemmas.Option.{slice_get-map}

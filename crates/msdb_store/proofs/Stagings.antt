@@ -20,8 +20,9 @@ use Rattle.fp_model.specs.declared.database.Msdb.{Msdb}
 use Rattle.fp_model.specs.declared.definitions.MsdbDef.{MsdbDef}
 use Rattle.fp_model.specs.declared.log.Item.TheVariants.{Segment}
 use Rattle.msdb_store.specs.Store.{IsFitSegment, segment_in}
-use Rattle.msdb_store.specs.Touches.{AreInOrder, Touch, bytes_at, has_key, item_of, made, put_touch, seen, touch_cmp}
-use Rattle.msdb_store.specs.Steps.{Stages}
+use Rattle.msdb_store.specs.Touches.{Touch}
+use Rattle.msdb_store.specs.inside.Touches.{AreInOrder, bytes_at, has_key, item_of, made, put_touch, seen, touch_cmp}
+use Rattle.msdb_store.specs.inside.Steps.{Stages}
 use Rattle.key_order.proofs.Ascending.{is_same, not_both, same_is}
 use Rattle.msdb_store.proofs.Databases.{at_item, beside_item, item_good}
 

@@ -1,10 +1,6 @@
 pub mod Changes
-pub mod Faults
-pub mod Places
-pub mod Putting
-pub mod Rooms
 pub mod Settling
 pub mod Slots
-pub mod Steps
 pub mod Store
 pub mod Touches
+pub mod inside

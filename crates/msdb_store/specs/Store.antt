@@ -1,10 +1,9 @@
 -- What contracts see of a store of segments.
-use Rattle.std.specs.Prelude.{◌≡◌, ⊤, ℕ, ◌^◌, ◌-◌, min, List, [], ◌∷◌, map, Option, Some, None, slice_get, Bool, find, is_none}
+use Rattle.std.specs.Prelude.{◌≡◌, ⊤, ℕ, ◌^◌, ◌-◌, min, List, [], ◌∷◌, map, Option, Some, None, slice_get}
 use Rattle.std.specs.List.{AllZip}
 use Rattle.fp_model.specs.CheckpointText.{IsMsdbOf}
 use Rattle.fp_model.specs.Items.{FitsMsdb}
-use Rattle.fp_model.specs.State.{key_of, segment_of, segment_after}
-use Rattle.fp_model.specs.Texts.{same_text}
+use Rattle.fp_model.specs.State.{segment_of, segment_after}
 use Rattle.fp_model.specs.declared.database.Msdb.{Msdb}
 use Rattle.fp_model.specs.declared.log.Item.{Item}
 use Rattle.fp_model.specs.declared.log.Item.TheVariants.{Segment, Image, Range}
@@ -55,7 +54,3 @@ IsFitSegment defs (Segment number key bytes) = (def : MsdbDef) × (slice_get def
     × FitsMsdb def key bytes
 IsFitSegment defs (Image set ci bytes) = ⊤
 IsFitSegment defs (Range set ci at bytes) = ⊤
-
--- whether segments lack the key of one
-abbrev pub lacks : List FieldDef → List (List ℕ) → List ℕ → Bool
-lacks fields segments segment = is_none (find (λ s. same_text (key_of fields s) (key_of fields segment)) segments)

@@ -8,7 +8,7 @@ ghost use Rattle.fp_model.specs.declared.database.Msdb.{Msdb as MsdbOf};
 ghost use Rattle.fp_model.specs.declared.definitions.MsdbDef.{MsdbDef as DefOf};
 ghost use Rattle.fp_model.specs.declared.log.Item.TheVariants.{Segment};
 ghost use Rattle.msdb_store.specs.Settling.{CanSettle, HasItem, IsAnswer, IsNamed, IsStaged, adds, key_in, named};
-ghost use Rattle.msdb_store.specs.Steps.{AtCall, IsChanged, IsGiven, IsStep, Stages};
+ghost use Rattle.msdb_store.specs.inside.Steps.{AtCall, IsChanged, IsGiven, IsStep, Stages};
 ghost use Rattle.msdb_store.specs.Store.{IsOf, segment_in};
 ghost use Rattle.std.specs.Option.{option_copied};
 ghost use Rattle.std.specs.Prelude.{◌≡◌, ◌<◌, ◌^◌, ◌↔◌, ◌∷◌, [], ℕ, IfOk, List as ListOf, count_by, length};

@@ -1,6 +1,6 @@
 //! What settling a queue comes to, before the databases have it.
 ghost use Rattle.std.specs.Prelude.{◌≡◌, IfOk};
-ghost use Rattle.msdb_store.specs.Faults.{fault_at};
+ghost use Rattle.msdb_store.specs.inside.Faults.{fault_at};
 ghost use Rattle.msdb_store.specs.declared.staged.VerifyFault.TheVariants as fault;
 
 use fld_calls::SettleFault;

@@ -1,5 +1,5 @@
 //! The segments that settling touches, beside the databases.
-ghost use Rattle.msdb_store.specs.Touches.{AreInOrder, bytes_at, item_of, put_touch};
+ghost use Rattle.msdb_store.specs.inside.Touches.{AreInOrder, bytes_at, item_of, put_touch};
 ghost use Rattle.std.specs.Option.{option_copied};
 ghost use Rattle.std.specs.Prelude.{◌≡◌, [], IfOk, OnOk, map};
 

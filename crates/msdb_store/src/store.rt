@@ -6,8 +6,8 @@ ghost use Rattle.std.specs.Cmp.Lexicographic.{slice_cmp};
 ghost use Rattle.std.specs.List.{AllZip};
 ghost use Rattle.std.specs.List.Sorted.{IsPermutation, IsSortedByKey};
 ghost use Rattle.std.specs.Ordering.{nat_cmp};
-ghost use Rattle.msdb_store.specs.Putting.{AreFew};
-ghost use Rattle.msdb_store.specs.Rooms.{msdb_of, room_of};
+ghost use Rattle.msdb_store.specs.inside.Putting.{AreFew};
+ghost use Rattle.msdb_store.specs.inside.Rooms.{msdb_of, room_of};
 ghost use Rattle.msdb_store.specs.Store.{least};
 ghost use Rattle.std.specs.Prelude.{◌≡◌, ◌≤◌, ◌<◌, ◌^◌, [], ◌∷◌, ◌++◌, IfOk, OnOk, length, map, take};
 
@@ -100,7 +100,7 @@ fn make_room(tables: &mut [Table], n: usize) -> Result<(), AllocError>
 
 impl MsdbStore {
     ghost use Rattle.fp_model.specs.Items.{with_item, with_items};
-    ghost use Rattle.msdb_store.specs.Putting.{CanPut, KeepsRoom};
+    ghost use Rattle.msdb_store.specs.inside.Putting.{CanPut, KeepsRoom};
     ghost use Rattle.msdb_store.specs.Settling.{adds};
     ghost use Rattle.msdb_store.specs.Store.{IsFitSegment, IsOf, found, found_after};
     ghost use Rattle.std.specs.List.{AllByRecursion};
@@ -282,7 +282,7 @@ impl MsdbStore {
 impl MsdbStore {
     ghost use Rattle.fp_model.specs.Items.{with_item, with_items};
     ghost use Rattle.fp_model.specs.declared.definitions.MsdbDef.{MsdbDef as DefOf};
-    ghost use Rattle.msdb_store.specs.Putting.{CanPut, KeepsRoom};
+    ghost use Rattle.msdb_store.specs.inside.Putting.{CanPut, KeepsRoom};
     ghost use Rattle.msdb_store.specs.Settling.{IsStaged, adds};
     ghost use Rattle.msdb_store.specs.Store.{IsOf};
     ghost use Rattle.std.specs.List.{AllByRecursion};

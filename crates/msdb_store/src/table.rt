@@ -1,10 +1,11 @@
 //! One database: its fields, and its segments by ascending key.
 ghost use Rattle.fp_model.specs.State.{ascend, drop_key, is_below, key_length, key_of, put_by_key};
 ghost use Rattle.fp_model.specs.Texts.{same_text};
-ghost use Rattle.msdb_store.specs.Places.{IsPlaced, IsWithin};
+ghost use Rattle.msdb_store.specs.inside.Places.{IsPlaced, IsWithin};
 ghost use Rattle.std.specs.List.{AllByRecursion};
 ghost use Rattle.std.specs.Option.{option_copied};
-ghost use Rattle.msdb_store.specs.Store.{lacks, room};
+ghost use Rattle.msdb_store.specs.Store.{room};
+ghost use Rattle.msdb_store.specs.inside.Store.{lacks};
 ghost use Rattle.std.specs.Prelude.{slice_get, ◌≡◌, ◌+◌, ◌<◌, ◌≤◌, IfOk, IsOk, ◌^◌, ℕ, List as ListOf, OnErr, OnOk, Some, false, find, if◌then◌else◌, length, map, take, true};
 
 use crate::heads::{Heads, head_of};

@@ -9,7 +9,7 @@ use Rattle.std.proofs.Math.Bool.{and-false}
 use Rattle.std.proofs.Math.Nat.{pow-le-pow_right, pow-suc, pow-zero, mul-le-mul_left}
 use Rattle.fp_model.specs.Numbers.{is_digit, packed, packed_digits, packed_sign, signed_by}
 use Rattle.fp_model.specs.Texts.{value}
-use Rattle.packed_dec.specs.Halves.{halves, pairs_value, magnitude}
+use Rattle.packed_dec.specs.inside.Halves.{halves, pairs_value, magnitude}
 
 -- one item more at the end
 pub length_snoc : (xs : List ℕ) (d : ℕ) → length (xs ++ d ∷ []) ≡ suc (length xs)

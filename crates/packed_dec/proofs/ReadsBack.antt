@@ -11,7 +11,7 @@ use Rattle.fp_model.specs.Numbers.{is_digit, is_length_of, pairs, packed, packed
 use Rattle.fp_model.specs.Texts.{value}
 use Rattle.fp_model.specs.declared.definitions.FieldKind.{FieldKind}
 use Rattle.fp_model.specs.declared.definitions.FieldKind.TheVariants.{C, X, H, F, P}
-use Rattle.packed_dec.specs.Halves.{halves, pairs_value, magnitude}
+use Rattle.packed_dec.specs.inside.Halves.{halves, pairs_value, magnitude}
 use Rattle.packed_dec.proofs.Digits.{length_snoc, value_snoc, digits_snoc, pair_snoc, packed_sign_snoc, good_end, signed_some}
 use Rattle.packed_dec.proofs.Forms.{length-pairs, length-big_endian}
 

@@ -4,7 +4,7 @@
 //! those in front of them so, and one product joins the two.
 ghost use Rattle.fp_model.specs.Numbers.{number, packed, signed_by};
 ghost use Rattle.fp_model.specs.Texts.{value};
-ghost use Rattle.packed_dec.specs.Halves.{magnitude, pairs_value};
+ghost use Rattle.packed_dec.specs.inside.Halves.{magnitude, pairs_value};
 ghost use Rattle.std.specs.Prelude.{◌≡◌, ◌≤◌, ◌<◌, ◌^◌, ◌||◌, ◌==◌, IfSome, length};
 
 use fp_model::FieldKind;

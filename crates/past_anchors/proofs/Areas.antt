@@ -12,7 +12,7 @@ use Rattle.fp_model.specs.WellFormed.{IsDedbDef}
 use Rattle.fp_model.specs.declared.definitions.AreaDef.{AreaDef}
 use Rattle.fp_model.specs.declared.definitions.DedbDef.{DedbDef}
 use Rattle.fp_model.specs.declared.definitions.Defs.{Defs}
-use Rattle.past_anchors.specs.Places.{AreFew}
+use Rattle.past_anchors.specs.inside.Places.{AreFew}
 use Rattle.past_anchors.proofs.Lists.{all_at, drop_more, get_left, get_right}
 
 -- ---- those of a database

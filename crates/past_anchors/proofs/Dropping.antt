@@ -19,7 +19,7 @@ use Rattle.fp_model.specs.declared.database.SeqItem.{SeqItem}
 use Rattle.fp_model.specs.declared.definitions.Defs.{Defs}
 use Rattle.fp_model.specs.declared.definitions.SegDef.{SegDef}
 use Rattle.past_anchors.specs.Databases.{AreDedbsOf, state_of}
-use Rattle.past_anchors.specs.Purges.{AllFall, AreFalling, FallFrom, IsAreaIn, ends_below, moved_up, with_purged}
+use Rattle.past_anchors.specs.inside.Purges.{AllFall, AreFalling, FallFrom, IsAreaIn, ends_below, moved_up, with_purged}
 use Rattle.past_anchors.proofs.Inserting.{beside, whole}
 use Rattle.state_laws.proofs.Areas.{alone, get_contains}
 use Rattle.state_laws.proofs.Lists.{both_true, first_true, none_is_not_some, second_true, some_is, true_is_not_false}

@@ -9,7 +9,8 @@ use Rattle.fp_model.specs.declared.database.AreaEnds.{AreaEnds}
 use Rattle.fp_model.specs.declared.database.Db.{Db}
 use Rattle.fp_model.specs.declared.definitions.AreaDef.{AreaDef}
 use Rattle.fp_model.specs.declared.definitions.DedbDef.{DedbDef}
-use Rattle.past_anchors.specs.Fullness.{full_as, full_at}
+use Rattle.past_anchors.specs.Fullness.{full_as}
+use Rattle.past_anchors.specs.inside.Fullness.{full_at}
 use Rattle.past_anchors.specs.declared.full.Full.{Full}
 use Rattle.past_anchors.proofs.Areas.{all_step, area, areas_step, length_areas}
 use Rattle.past_anchors.proofs.Lists.{get_there}

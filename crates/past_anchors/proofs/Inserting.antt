@@ -21,7 +21,7 @@ use Rattle.fp_model.specs.declared.definitions.DedbDef.{DedbDef}
 use Rattle.fp_model.specs.declared.definitions.Defs.{Defs}
 use Rattle.fp_model.specs.declared.definitions.SegDef.{SegDef}
 use Rattle.past_anchors.specs.Databases.{AreDedbsOf, FitsCommit, HasRoom, state_of}
-use Rattle.past_anchors.specs.Inserts.{one_later, with_numbered}
+use Rattle.past_anchors.specs.inside.Inserts.{one_later, with_numbered}
 use Rattle.past_anchors.proofs.Areas.{found_in, found_nowhere}
 use Rattle.past_anchors.proofs.Lists.{get_as}
 use Rattle.state_laws.specs.Parts.{FitsAnchorChange, FitsSeqInsert}

@@ -1,5 +1,3 @@
 pub mod Databases
 pub mod Fullness
-pub mod Inserts
-pub mod Places
-pub mod Purges
+pub mod inside

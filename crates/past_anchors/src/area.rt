@@ -2,7 +2,7 @@
 ghost use Rattle.fp_model.specs.Commit.{area_of_set, takes};
 ghost use Rattle.fp_model.specs.State.{anchors_in, areas_from, has_anchor};
 ghost use Rattle.fp_model.specs.WellFormed.{AreDefs};
-ghost use Rattle.past_anchors.specs.Places.{AreFew, area_of};
+ghost use Rattle.past_anchors.specs.inside.Places.{AreFew, area_of};
 ghost use Rattle.std.specs.Prelude.{◌≡◌, ◌<◌, ◌^◌, Some, find, length, option_map, slice_get};
 
 use fp_model::{AreaDef, Defs, SeqInsert};

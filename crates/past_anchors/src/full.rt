@@ -4,8 +4,9 @@ ghost use Rattle.fp_model.specs.State.{areas_from, areas_of_all, first_area_set}
 ghost use Rattle.fp_model.specs.WellFormed.{IsDedbDef};
 ghost use Rattle.fp_model.specs.declared.database.Msdb.{Msdb as MsdbOf};
 ghost use Rattle.past_anchors.specs.Databases.{state_of};
-ghost use Rattle.past_anchors.specs.Fullness.{full_as, full_at};
-ghost use Rattle.past_anchors.specs.Places.{AreFew, area_of};
+ghost use Rattle.past_anchors.specs.Fullness.{full_as};
+ghost use Rattle.past_anchors.specs.inside.Fullness.{full_at};
+ghost use Rattle.past_anchors.specs.inside.Places.{AreFew, area_of};
 ghost use Rattle.std.specs.List.{AllByRecursion};
 ghost use Rattle.std.specs.Prelude.{◌≡◌, ◌≤◌, List as ListOf, filter, length, option_map};
 

@@ -7,7 +7,7 @@ ghost use Rattle.fp_model.specs.declared.database.AreaEnds.{AreaEnds as EndsOf};
 ghost use Rattle.fp_model.specs.declared.database.Msdb.{Msdb as MsdbOf};
 ghost use Rattle.fp_model.specs.declared.database.Root.{Root as RootOf};
 ghost use Rattle.past_anchors.specs.Databases.{AreDedbsOf, HasRoom, state_of};
-ghost use Rattle.past_anchors.specs.Inserts.{one_later, with_numbered};
+ghost use Rattle.past_anchors.specs.inside.Inserts.{one_later, with_numbered};
 ghost use Rattle.state_laws.specs.Parts.{FitsSeqInsert};
 ghost use Rattle.std.specs.List.{AllByRecursion};
 ghost use Rattle.std.specs.Prelude.{◌≡◌, ◌<◌, ◌^◌, List as ListOf, OnOk, Some, length, map, slice_get, true};

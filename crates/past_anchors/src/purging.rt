@@ -4,8 +4,8 @@ ghost use Rattle.fp_model.specs.State.{anchors_in};
 ghost use Rattle.fp_model.specs.declared.database.AreaEnds.{AreaEnds as EndsOf};
 ghost use Rattle.fp_model.specs.declared.database.Msdb.{Msdb as MsdbOf};
 ghost use Rattle.past_anchors.specs.Databases.{state_of};
-ghost use Rattle.past_anchors.specs.Places.{area_of};
-ghost use Rattle.past_anchors.specs.Purges.{AllFall, AreFalling, FallFrom, IsAreaIn, changed_from, ends_below, moved_up, with_purged};
+ghost use Rattle.past_anchors.specs.inside.Places.{area_of};
+ghost use Rattle.past_anchors.specs.inside.Purges.{AllFall, AreFalling, FallFrom, IsAreaIn, changed_from, ends_below, moved_up, with_purged};
 ghost use Rattle.std.specs.Prelude.{◌≡◌, ◌+◌, ◌<◌, ◌≤◌, ◌^◌, List as ListOf, Some, filter, length, map, nat_le, slice_get};
 
 use crate::area::{AreaPlace, anchors_in};

@@ -6,7 +6,7 @@ ghost use Rattle.fp_model.specs.declared.database.Msdb.{Msdb as MsdbOf};
 ghost use Rattle.fp_model.specs.declared.database.Root.{Root as RootOf};
 ghost use Rattle.key_order.specs.Places.{IsPlace};
 ghost use Rattle.past_anchors.specs.Databases.{state_of};
-ghost use Rattle.past_anchors.specs.Places.{IsChangedAt};
+ghost use Rattle.past_anchors.specs.inside.Places.{IsChangedAt};
 ghost use Rattle.std.specs.Prelude.{◌≡◌, ◌≤◌, ◌<◌, IfSome, List as ListOf, OnOk, length, map, true};
 
 use fp_model::{Dedb, List, Root, SegDef, SeqItem, key_of};

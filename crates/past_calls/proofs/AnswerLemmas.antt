@@ -12,7 +12,7 @@ use Rattle.fp_model.specs.Calls.{OnMsdb, database_of, dedb_target, looks_on, loo
 use Rattle.fp_model.specs.FitCalls.{FitsAnswerOf}
 use Rattle.fp_model.specs.MsdbCalls.{msdb_looks, msdb_reply}
 use Rattle.fp_model.specs.Workspace.{Workspace}
-use Rattle.past_calls.specs.Replies.{ShowsFound}
+use Rattle.past_calls.specs.inside.Replies.{ShowsFound}
 
 -- the call names this database
 pub record Names (defs : List MsdbDef) (c : Call) (n : ℕ) (def : MsdbDef) : Type 0 where

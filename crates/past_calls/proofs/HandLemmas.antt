@@ -22,7 +22,7 @@ use Rattle.fp_model.specs.Workspace.{DedbPosition, Workspace}
 use Rattle.dedb_calls.specs.Anchors.{Sees, held_at}
 use Rattle.dedb_calls.specs.declared.anchors.HeldAnchor.{HeldAnchor}
 use Rattle.dedb_calls.proofs.AnchorLemmas.{same_numbers}
-use Rattle.past_calls.specs.Needs.{anchors_at, lacking, lacking_on, may_need}
+use Rattle.past_calls.specs.inside.Needs.{anchors_at, lacking, lacking_on, may_need}
 use Rattle.past_calls.specs.Progress.{Progress}
 use Rattle.past_calls.specs.Targets.{FitsWork, IfDedb, LeavesMsdbs, LeavesOthers, anchor_needed}
 use Rattle.past_calls.proofs.NeedLemmas.{Among, called}

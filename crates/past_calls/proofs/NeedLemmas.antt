@@ -21,7 +21,7 @@ use Rattle.dedb_calls.specs.declared.anchors.HeldAnchor.{HeldAnchor}
 use Rattle.past_calls.specs.declared.answering.Ready.{Ready}
 use Rattle.past_calls.specs.declared.answering.Ready.TheVariants as ready
 use Rattle.past_calls.specs.Alone.{held_alone}
-use Rattle.past_calls.specs.Needs.{anchors_at, may_need}
+use Rattle.past_calls.specs.inside.Needs.{anchors_at, may_need}
 use Rattle.past_calls.specs.Progress.{Progress}
 use Rattle.past_calls.specs.Readiness.{IfNeed, needed_in}
 use Rattle.past_calls.specs.Targets.{anchor_needed}

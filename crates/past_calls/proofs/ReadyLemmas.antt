@@ -7,7 +7,8 @@ use Rattle.dedb_calls.specs.Readiness as dedbs
 use Rattle.dedb_calls.specs.declared.ready.DedbReady.{DedbReady}
 use Rattle.dedb_calls.specs.declared.ready.DedbReady.TheVariants as dedb
 use Rattle.fp_model.specs.Answers.{Needed}
-use Rattle.past_calls.specs.Readiness.{IfAnswer, needed_in, ready_in}
+use Rattle.past_calls.specs.Readiness.{IfAnswer, needed_in}
+use Rattle.past_calls.specs.inside.Readiness.{ready_in}
 use Rattle.past_calls.specs.declared.answering.Ready.{Ready}
 use Rattle.past_calls.specs.declared.answering.Ready.TheVariants as ready
 

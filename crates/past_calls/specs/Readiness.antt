@@ -3,8 +3,6 @@ use Rattle.std.specs.Prelude.{⊤, ℕ, Option, Some, None}
 use Rattle.fp_model.specs.declared.calls.Answer.{Answer}
 use Rattle.fp_model.specs.declared.calls.Resource.{Resource}
 use Rattle.fp_model.specs.declared.calls.Resource.TheVariants.{Anchor}
-use Rattle.dedb_calls.specs.declared.ready.DedbReady.{DedbReady}
-use Rattle.dedb_calls.specs.declared.ready.DedbReady.TheVariants as dedb
 use Rattle.past_calls.specs.declared.answering.Ready.{Ready}
 use Rattle.past_calls.specs.declared.answering.Ready.TheVariants as ready
 
@@ -27,8 +25,3 @@ OnNeed (ready.Need number anchor) P = P
 abbrev pub IfNeed : Ready → (ℕ → ℕ → Type 0) → Type 0
 IfNeed (ready.Answer answer) P = ⊤
 IfNeed (ready.Need number anchor) P = P number anchor
-
--- what a call to the data entry database of this number comes to
-abbrev pub ready_in : ℕ → DedbReady → Ready
-ready_in number (dedb.Answer answer) = ready.Answer answer
-ready_in number (dedb.Need anchor mode) = ready.Need number anchor

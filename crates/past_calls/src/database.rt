@@ -1,6 +1,6 @@
 //! The main storage database that a call names, at the places at which it is looked at.
 ghost use Rattle.fp_model.specs.State.{key_of, segment_after, segment_of};
-ghost use Rattle.past_calls.specs.Replies.{IsDatabase};
+ghost use Rattle.past_calls.specs.inside.Replies.{IsDatabase};
 ghost use Rattle.past_segments.specs.Times.{database_at};
 ghost use Rattle.std.specs.Option.{option_copied};
 ghost use Rattle.std.specs.Prelude.{◌≡◌, IfSome, length};

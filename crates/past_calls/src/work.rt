@@ -15,7 +15,7 @@ ghost use Rattle.fp_model.specs.declared.definitions.Defs.{Defs as DefsOf};
 ghost use Rattle.segment_keys.specs.Keys.{resource_of};
 ghost use Rattle.past_calls.specs.Progress.{IsWorkOf, dedbs_in};
 ghost use Rattle.segment_keys.specs.Keys.{is_among};
-ghost use Rattle.past_calls.specs.Replies.{mark_in, mark_of, own_behind};
+ghost use Rattle.past_calls.specs.inside.Replies.{mark_in, mark_of, own_behind};
 ghost use Rattle.segment_keys.specs.Keys.{is_marked};
 
 use crate::database::key_in;

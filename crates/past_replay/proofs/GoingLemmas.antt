@@ -33,7 +33,7 @@ use Rattle.past_replay.specs.declared.running.End.TheVariants as ends
 use Rattle.past_replay.specs.declared.running.Look.{Look}
 use Rattle.past_replay.specs.declared.running.Rerun.{Rerun}
 use Rattle.past_replay.specs.declared.running.Running.{Running}
-use Rattle.past_replay.specs.Running.{IsAsking, IsEnd, IsKept, IsUnderWay, alone_on, end_with, ended, look_of, now_of, rules_in}
+use Rattle.past_replay.specs.inside.Running.{IsAsking, IsEnd, IsKept, IsUnderWay, alone_on, end_with, ended, look_of, now_of, rules_in}
 use Rattle.past_replay.specs.States.{AreStatesOf}
 use Rattle.past_replay.proofs.ListLemmas.{drop_at, drop_none, drop_whole, each_has, is_within, stands}
 

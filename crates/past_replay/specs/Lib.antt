@@ -1,4 +1,4 @@
 pub mod Ends
-pub mod Running
 pub mod Setup
 pub mod States
+pub mod inside

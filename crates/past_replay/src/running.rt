@@ -7,7 +7,7 @@ ghost use Rattle.fp_model.specs.FitCalls.{FitsAnswerOf};
 ghost use Rattle.fp_model.specs.declared.database.Db.{Db as DbOf};
 ghost use Rattle.past_calls.specs.Progress.{IsWorkOf};
 ghost use Rattle.past_calls.specs.Targets.{FitsWork};
-ghost use Rattle.past_replay.specs.Running.{CanRerun, IsAsking, IsEnd, IsUnderWay, end_with, look_of, now_of};
+ghost use Rattle.past_replay.specs.inside.Running.{CanRerun, IsAsking, IsEnd, IsUnderWay, end_with, look_of, now_of};
 ghost use Rattle.past_segments.specs.Pasts.{databases_at};
 ghost use Rattle.std.specs.Prelude.{◌≡◌, ◌+◌, ◌<◌, ◌≤◌, IfNone, IfOk, IfSome, OnOk, length, slice_get, ℕ};
 

@@ -8,7 +8,7 @@ ghost use Rattle.fp_model.specs.declared.database.Dedb.{Dedb as DedbOf};
 ghost use Rattle.fp_model.specs.declared.log.Outcome.TheVariants.{Roll, SeqFull, Verify};
 ghost use Rattle.past_anchors.specs.Databases.{AreDedbsOf, FitsCommit};
 ghost use Rattle.past_replay.specs.Ends.{is_done, with_next};
-ghost use Rattle.past_replay.specs.Running.{HandsIn, IsFull};
+ghost use Rattle.past_replay.specs.inside.Running.{HandsIn, IsFull};
 ghost use Rattle.past_replay.specs.States.{state_at};
 ghost use Rattle.past_replay.specs.declared.alone.Alone.TheVariants as alone;
 ghost use Rattle.past_segments.specs.Pasts.{ArePastsOf, databases_at};

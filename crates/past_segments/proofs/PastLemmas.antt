@@ -7,7 +7,8 @@ use Rattle.std.proofs.lemmas.Bool.{lt-leb, le-leb}
 use Rattle.fp_model.specs.State.{ascend, is_below, put_by_key, drop_key}
 use Rattle.fp_model.specs.Texts.{same_text}
 use Rattle.key_order.specs.Places.{IsPlace, if_same}
-use Rattle.past_segments.specs.Times.{AreSlots, EndsBefore, EndsBy, FitsSlot, Rises, segments_at, value_at}
+use Rattle.past_segments.specs.Times.{AreSlots, EndsBy, FitsSlot, Rises, segments_at, value_at}
+use Rattle.past_segments.specs.inside.Times.{EndsBefore}
 use Rattle.past_segments.specs.declared.slot.Slot.{Slot}
 use Rattle.past_segments.specs.declared.slot.Version.{Version}
 use Rattle.key_order.proofs.Ascending.{IsAscending, all_above, below_differs, differ, differs_back, dropped_none, place_behind, put_in as put_in_order, same_is, tail_ascends, with_one_ascends}

@@ -6,7 +6,8 @@ use Rattle.std.specs.List.{AllByRecursion}
 use Rattle.std.specs.List.Sorted.{IsPartitionedBy, IsPartitionPoint}
 use Rattle.std.proofs.lemmas.Bool.{leb-true, leb-false, le-leb, lt-leb}
 use Rattle.std.proofs.lemmas.List.Sums.{fold-append}
-use Rattle.past_segments.specs.Times.{EndsBefore, EndsBy, Rises, reaches, value_at, value_before}
+use Rattle.past_segments.specs.Times.{EndsBy, Rises, value_at}
+use Rattle.past_segments.specs.inside.Times.{EndsBefore, reaches, value_before}
 use Rattle.past_segments.specs.declared.slot.Version.{Version}
 use Rattle.key_order.proofs.Ascending.{all_at, not_both, stands_there}
 

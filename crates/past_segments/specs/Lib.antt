@@ -1,3 +1,3 @@
 pub mod Pasts
-pub mod Places
 pub mod Times
+pub mod inside

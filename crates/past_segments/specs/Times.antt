@@ -1,6 +1,5 @@
 -- The values of keys at every place, and the database that they show there.
-use Rattle.std.specs.Prelude.{◌≡◌, ⊤, ℕ, zero, suc, ◌-◌, ◌<◌, ◌≤◌, List, [], ◌∷◌, length, map, take, Bool, true, false, nat_le, ◌&&◌, if◌then◌else◌, Option, None, IfSome, fold, slice_get}
-use Rattle.std.specs.Option.{option_map_or}
+use Rattle.std.specs.Prelude.{◌≡◌, ⊤, ℕ, ◌<◌, ◌≤◌, List, [], ◌∷◌, map, take, Bool, true, nat_le, ◌&&◌, if◌then◌else◌, Option, None, IfSome, fold}
 use Rattle.std.specs.List.{AllByRecursion, filter_map, list_any}
 use Rattle.fp_model.specs.declared.database.Msdb.{Msdb}
 use Rattle.fp_model.specs.State.{ascend}
@@ -14,17 +13,6 @@ use Rattle.past_segments.specs.declared.slot.Slot.{Slot}
 abbrev pub value_at : ℕ → List Version → Option (List ℕ)
 value_at place versions = fold (λ value v. if nat_le v.from place then v.segment else value) None versions
 
--- the last of the first n values, or this one where n is 0
-abbrev pub value_before : Option (List ℕ) → List Version → ℕ → Option (List ℕ)
-value_before value versions zero = value
-value_before value [] (suc n) = value
-value_before value (v ∷ vs) (suc n) = value_before v.segment vs n
-
--- whether the last stands from a place or behind it
-abbrev pub reaches : ℕ → List Version → Bool
-reaches place versions =
-    option_map_or (λ (v : Version). nat_le place v.from) (slice_get versions (length versions - 1)) false
-
 -- each stands from a later place than those before it
 abbrev pub Rises : List Version → Type 0
 Rises [] = ⊤
@@ -33,10 +21,6 @@ Rises (v ∷ vs) = AllByRecursion (λ (w : Version). v.from < w.from) vs × Rise
 -- none stands from behind a place
 abbrev pub EndsBy : ℕ → List Version → Type 0
 EndsBy place versions = AllByRecursion (λ (v : Version). v.from ≤ place) versions
-
--- none stands from a place or behind it
-abbrev pub EndsBefore : ℕ → List Version → Type 0
-EndsBefore place versions = AllByRecursion (λ (v : Version). v.from < place) versions
 
 -- each segment has this key, which is its first bytes
 abbrev pub HasKey : ℕ → List ℕ → List Version → Type 0

@@ -2,7 +2,7 @@
 ghost use Rattle.fp_model.specs.State.{ascend, is_below, key_length, segment_after, segment_of, with_segment, without_segment};
 ghost use Rattle.fp_model.specs.Texts.{same_text};
 ghost use Rattle.fp_model.specs.declared.definitions.MsdbDef.{MsdbDef as DefOf};
-ghost use Rattle.past_segments.specs.Places.{IsPlaced, IsWithin};
+ghost use Rattle.past_segments.specs.inside.Places.{IsPlaced, IsWithin};
 ghost use Rattle.key_order.specs.Places.{IsPlace};
 ghost use Rattle.past_segments.specs.Times.{EndsBy, FitsSlot, IsSettledBy, Rises, database_at, is_late, segments_at};
 ghost use Rattle.std.specs.List.{AllByRecursion};

@@ -1,5 +1,6 @@
 //! One key, and the values that it had.
-ghost use Rattle.past_segments.specs.Times.{EndsBefore, EndsBy, HasKey, Rises, reaches, value_at, value_before};
+ghost use Rattle.past_segments.specs.Times.{EndsBy, HasKey, Rises, value_at};
+ghost use Rattle.past_segments.specs.inside.Times.{EndsBefore, reaches, value_before};
 ghost use Rattle.std.specs.Option.{option_copied};
 ghost use Rattle.std.specs.Prelude.{◌≡◌, ◌<◌, ◌≤◌, ◌∷◌, ℕ, [], List as ListOf, IfOk, None, IfSome, Some, OnErr, OnOk, length, nat_le, take};
 

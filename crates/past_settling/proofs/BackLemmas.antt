@@ -16,7 +16,8 @@ use Rattle.past_segments.specs.declared.slot.Slot.{Slot}
 use Rattle.past_segments.specs.declared.slot.Version.{Version}
 use Rattle.past_segments.proofs.PastLaws.{settled, shows_on}
 use Rattle.key_order.proofs.Ascending.{same_is, stands_there}
-use Rattle.past_settling.specs.Queues.{LeavesAll, OnFound, TakesBack, any_names, is_it, late_at, names}
+use Rattle.past_settling.specs.Queues.{OnFound}
+use Rattle.past_settling.specs.inside.Queues.{LeavesAll, TakesBack, any_names, is_it, late_at, names}
 use Rattle.past_settling.specs.declared.fault.QueueFault.{QueueFault}
 use Rattle.past_settling.specs.declared.fault.QueueFault.TheVariants as queue
 use Rattle.past_settling.proofs.QueueLemmas.{get_other, get_set, map_same}

@@ -10,7 +10,7 @@ use Rattle.fld_calls.specs.declared.arguments.SettleFault.TheVariants as fault
 use Rattle.fp_model.specs.Fsas.{Failure, first_failure, fsas_in}
 use Rattle.fp_model.specs.Settle.{absent}
 use Rattle.fp_model.specs.WellFormed.{IsMsdbDef}
-use Rattle.past_settling.specs.Settling.{Gives, IsChanged, IsFieldCall}
+use Rattle.past_settling.specs.inside.Settling.{Gives, IsChanged, IsFieldCall}
 use Rattle.fld_calls.proofs.Kept.{has_key, list_keeps}
 use Rattle.fp_model.specs.State.{drop_key, key_length, key_of, segment_of, with_segment, without_segment}
 use Rattle.fp_model.specs.declared.database.Msdb.{Msdb}

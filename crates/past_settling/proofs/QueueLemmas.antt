@@ -16,8 +16,9 @@ use Rattle.fp_model.specs.declared.definitions.MsdbDef.{MsdbDef}
 use Rattle.past_segments.specs.Pasts.{ArePastsOf, IsPastOf, databases_at}
 use Rattle.past_segments.specs.Times.{IsSettledBy, Past, database_at, is_late}
 use Rattle.key_order.proofs.Ascending.{all_at, stands_there}
-use Rattle.past_settling.specs.Queues.{IsCall, IsQueue, LeavesAll, fault_at, is_it, late_at}
-use Rattle.past_settling.specs.Settling.{IsFieldCall, Leaves}
+use Rattle.past_settling.specs.Queues.{IsQueue}
+use Rattle.past_settling.specs.inside.Queues.{IsCall, LeavesAll, fault_at, is_it, late_at}
+use Rattle.past_settling.specs.inside.Settling.{IsFieldCall, Leaves}
 
 -- ---- lists
 

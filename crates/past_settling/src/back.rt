@@ -1,7 +1,7 @@
 //! A queue taken back, key by key.
 ghost use Rattle.fp_model.specs.FitCalls.{IsFitDeferred};
 ghost use Rattle.past_segments.specs.Pasts.{databases_at};
-ghost use Rattle.past_settling.specs.Queues.{TakesBack, any_names, is_it, key_in, names};
+ghost use Rattle.past_settling.specs.inside.Queues.{TakesBack, any_names, is_it, key_in, names};
 ghost use Rattle.std.specs.List.{AllByRecursion};
 ghost use Rattle.std.specs.Prelude.{◌≡◌, ◌<◌, length};
 

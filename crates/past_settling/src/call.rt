@@ -7,7 +7,7 @@ ghost use Rattle.fp_model.specs.declared.calls.Deferred.TheVariants.{Fld};
 ghost use Rattle.fp_model.specs.declared.definitions.MsdbDef.{MsdbDef as DefOf};
 ghost use Rattle.past_segments.specs.Pasts.{ArePastsOf, databases_at};
 ghost use Rattle.past_segments.specs.Times.{IsSettledBy};
-ghost use Rattle.past_settling.specs.Queues.{IsCall, LeavesAll, is_it, key_in, names};
+ghost use Rattle.past_settling.specs.inside.Queues.{IsCall, LeavesAll, is_it, key_in, names};
 ghost use Rattle.std.specs.List.{AllByRecursion};
 ghost use Rattle.std.specs.Prelude.{◌≡◌, ◌<◌, OnErr, OnOk, Some, length, slice_get};
 

@@ -6,7 +6,7 @@ ghost use Rattle.fp_model.specs.WellFormed.{IsMsdbDef, StandFrom};
 ghost use Rattle.fp_model.specs.declared.definitions.MsdbDef.{MsdbDef as DefOf};
 ghost use Rattle.past_segments.specs.Pasts.{IsPastOf};
 ghost use Rattle.past_segments.specs.Times.{IsSettledBy, database_at};
-ghost use Rattle.past_settling.specs.Settling.{Gives, IsChanged, IsFieldCall, Leaves};
+ghost use Rattle.past_settling.specs.inside.Settling.{Gives, IsChanged, IsFieldCall, Leaves};
 ghost use Rattle.std.specs.Option.{option_copied};
 ghost use Rattle.std.specs.Prelude.{◌≡◌, IfSome, List as ListOf, OnErr, OnOk, length};
 

@@ -3,7 +3,8 @@ ghost use Rattle.fp_model.specs.FitCalls.{IsFitDeferred};
 ghost use Rattle.fp_model.specs.WellFormed.{IsMsdbDef};
 ghost use Rattle.past_segments.specs.Pasts.{ArePastsOf, databases_at};
 ghost use Rattle.past_segments.specs.Times.{IsSettledBy};
-ghost use Rattle.past_settling.specs.Queues.{IsQueue, LeavesAll, any_names, fault_at};
+ghost use Rattle.past_settling.specs.Queues.{IsQueue};
+ghost use Rattle.past_settling.specs.inside.Queues.{LeavesAll, any_names, fault_at};
 ghost use Rattle.std.specs.List.{AllByRecursion};
 ghost use Rattle.std.specs.Prelude.{◌≡◌, ◌<◌, ◌^◌, length};
 

@@ -4,7 +4,7 @@ use Rattle.std.proofs.lemmas.List.Elements.{Contains-append_left, Contains-appen
 use Rattle.root_anchor.proofs.Members.{none_in, front_in, behind_in, in_cases}
 use Rattle.anchor_elements.proofs.Pointers.{pointer_or}
 use Rattle.anchor_elements.specs.Elements.{Pointer}
-use Rattle.root_anchor.specs.Rebuilding.{AreApart, met_after}
+use Rattle.root_anchor.specs.inside.Rebuilding.{AreApart, met_after}
 
 -- ---- what a list holds
 

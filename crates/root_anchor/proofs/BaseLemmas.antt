@@ -15,8 +15,8 @@ use Rattle.root_anchor.specs.Chains.{AreRoots, IsChain, anchor_count, root_of}
 use Rattle.root_anchor.specs.Formed.{HasRoots}
 use Rattle.root_anchor.specs.Damage.{RootsFail, ChainFails, no_base, wrong_pointer}
 use Rattle.anchor_elements.specs.Reading.{IsMissing}
-use Rattle.root_anchor.specs.Standing.{places_of, Stands, AreStanding, AreInTurn, AreKeyed}
-use Rattle.root_anchor.specs.Walking.{met_of, WalksOn, AllStand, IsWalked}
+use Rattle.root_anchor.specs.inside.Standing.{places_of, Stands, AreStanding, AreInTurn, AreKeyed}
+use Rattle.root_anchor.specs.inside.Walking.{met_of, WalksOn, AllStand, IsWalked}
 use Rattle.root_anchor.proofs.PutLemmas.{base_kind}
 use Rattle.anchor_elements.proofs.ReadLemmas.{no_bytes}
 use Rattle.root_anchor.proofs.WalkLemmas.{in_reverse, reverse_in}

@@ -8,7 +8,7 @@ use Rattle.fp_model.specs.declared.database.Node.TheFolds.{fold-roll-Node, ind-N
 use Rattle.fp_model.specs.declared.database.Node.TheOpen.{Node-F}
 use Rattle.fp_model.specs.declared.database.Root.{Root}
 use Rattle.fp_model.specs.Order.{child_types}
-use Rattle.root_anchor.specs.Rebuilding.{IsDirect, types_below, types_step, types_of_row, types_of_rows, types_of_segment, types_of_roots}
+use Rattle.root_anchor.specs.inside.Rebuilding.{IsDirect, types_below, types_step, types_of_row, types_of_rows, types_of_segment, types_of_roots}
 use Rattle.root_anchor.proofs.TypeLemmas.{child-direct}
 
 module _ (types : List SegDef) where

@@ -7,7 +7,7 @@ use Rattle.ci_overflow.specs.Lists.{bytes_at}
 use Rattle.ci_overflow.specs.Rooms.{KeepsKinds}
 use Rattle.anchor_elements.specs.Elements.{Pointer}
 use Rattle.root_anchor.specs.Stored.{KeepsSequential}
-use Rattle.root_anchor.specs.Rebuilding.{Exchanges}
+use Rattle.root_anchor.specs.inside.Rebuilding.{Exchanges}
 use Rattle.root_anchor.proofs.Apart.{holds_or, apart-both}
 
 pub sequential-joined : (shape : Shape) (a b c : List (List ℕ)) → KeepsSequential shape a b → KeepsSequential shape b c

@@ -7,7 +7,8 @@ use Rattle.ci_space.specs.Interval.{IsUsed}
 use Rattle.ci_space.proofs.Contents.{used-type}
 use Rattle.ci_overflow.specs.Lists.{bytes_at, IsInOrder, IsInPlace}
 use Rattle.ci_overflow.specs.Places.{base_of, first_base, uow_of}
-use Rattle.ci_overflow.specs.Rooms.{IsOwnRoom, TakesOne}
+use Rattle.ci_overflow.specs.Rooms.{IsOwnRoom}
+use Rattle.ci_overflow.specs.inside.Rooms.{TakesOne}
 use Rattle.fp_model.specs.declared.definitions.SegDef.{SegDef}
 use Rattle.fp_model.specs.declared.database.Node.{Node}
 use Rattle.fp_model.specs.declared.database.Root.{Root}
@@ -25,11 +26,12 @@ use Rattle.root_anchor.specs.declared.standing.Standing.{Standing}
 use Rattle.root_anchor.specs.Chains.{AreRows, no_row, row_end, segment, AreRoots, no_root, root, newest, root_of, anchor_count, IsChain}
 use Rattle.root_anchor.specs.Differing.{ChangesAlone}
 use Rattle.root_anchor.specs.Formed.{HasRoots, IsFormed, NewAreOwn}
-use Rattle.root_anchor.specs.Gaps.{AddsOne, FewChange, SegmentsStay, StaysIn, linked, Refills, Fills, MeetsOneMore, IsGapInRoots, Adds, AddsBehind, AddsInFront, says_added, links_to}
+use Rattle.root_anchor.specs.Gaps.{AddsOne, FewChange, SegmentsStay, StaysIn}
+use Rattle.root_anchor.specs.inside.Gaps.{linked, Refills, Fills, MeetsOneMore, IsGapInRoots, Adds, AddsBehind, AddsInFront, says_added, links_to}
 use Rattle.root_anchor.specs.Keeping.{KeepsElements}
-use Rattle.root_anchor.specs.Puts.{PutsRoot}
-use Rattle.root_anchor.specs.Rebuilding.{Exchanges, AreApart, RootsStand, Rebuilds, Shares, met_after}
-use Rattle.root_anchor.specs.Standing.{places_of, AreStanding}
+use Rattle.root_anchor.specs.inside.Puts.{PutsRoot}
+use Rattle.root_anchor.specs.inside.Rebuilding.{Exchanges, AreApart, RootsStand, Rebuilds, Shares, met_after}
+use Rattle.root_anchor.specs.inside.Standing.{places_of, AreStanding}
 use Rattle.root_anchor.specs.Stored.{ApartKeep}
 use Rattle.root_anchor.proofs.AloneLemmas.{alone_chain, made_root}
 use Rattle.root_anchor.proofs.Apart.{contains-one, holds_or, met-now, met-cases}

@@ -7,8 +7,9 @@ use Rattle.fp_model.specs.declared.definitions.SegDef.{SegDef}
 use Rattle.fp_model.specs.WellFormed.{HavePlaces}
 use Rattle.anchor_elements.specs.declared.element.First.{First}
 use Rattle.anchor_elements.specs.Reading.{types_of, pointers_of}
-use Rattle.root_anchor.specs.Rebuilding.{IsDirect}
-use Rattle.root_anchor.specs.Stored.{row_has_form, rows_have_form}
+use Rattle.root_anchor.specs.inside.Rebuilding.{IsDirect}
+use Rattle.root_anchor.specs.Stored.{rows_have_form}
+use Rattle.root_anchor.specs.inside.Stored.{row_has_form}
 use Rattle.root_anchor.proofs.TypeLemmas.{child-behind, child-direct, rows-row}
 use Rattle.fp_model.specs.declared.database.Node.{Node, out-Node, roll-Node}
 use Rattle.fp_model.specs.declared.database.Root.{Root}
@@ -18,7 +19,7 @@ use Rattle.anchor_elements.specs.Wrong.{IsWrong}
 use Rattle.root_anchor.specs.Chains.{AreRows, no_row, row_end, segment, AreRoots, no_root, root, newest}
 use Rattle.root_changes.specs.Differing.{HaveSameOwn, DifferAt, DifferIn, RowDiffers}
 use Rattle.root_anchor.specs.Differing.{RowsDifferIn, this_segment, below_segment, behind_twin, behind_row, RootsDifferIn, this_root, below_root, behind_root}
-use Rattle.root_anchor.specs.Finding.{IsTwinAt, this_twin, twin_behind, GiveRows, GivesRow, RowDiffersIn}
+use Rattle.root_anchor.specs.inside.Finding.{IsTwinAt, this_twin, twin_behind, GiveRows, GivesRow, RowDiffersIn}
 use Rattle.root_anchor.proofs.AloneLemmas.{rolled_below}
 use Rattle.root_changes.proofs.ComparingLemmas.{shifted, front_same, rest_same, front_first, front_second}
 use Rattle.root_anchor.proofs.Members.{none_in}

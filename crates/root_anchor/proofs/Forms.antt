@@ -15,7 +15,8 @@ use Rattle.anchor_elements.specs.declared.element.First.{First}
 use Rattle.anchor_elements.specs.Elements.{has_serial}
 use Rattle.anchor_elements.specs.Reading.{types_of}
 use Rattle.root_anchor.specs.Chains.{newest}
-use Rattle.root_anchor.specs.Stored.{form_step, is_in_form, row_has_form, rows_have_form, is_newest, is_storable, are_storable}
+use Rattle.root_anchor.specs.Stored.{form_step, is_in_form, rows_have_form, is_newest, is_storable, are_storable}
+use Rattle.root_anchor.specs.inside.Stored.{row_has_form}
 use Rattle.root_anchor.proofs.WalkSteps.{left_first}
 
 pub both : (a b : Bool) → a ≡ true → b ≡ true → (a && b) ≡ true

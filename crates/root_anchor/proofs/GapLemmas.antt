@@ -15,8 +15,8 @@ use Rattle.root_anchor.specs.declared.gaps.Gap.{Gap}
 use Rattle.root_anchor.specs.declared.gaps.Added.{Added}
 use Rattle.root_anchor.specs.declared.gaps.Link.TheVariants.{Next, FirstChild}
 use Rattle.root_anchor.specs.Chains.{AreRows, no_row, row_end, segment, newest, AreRoots, no_root, root}
-use Rattle.root_anchor.specs.Finding.{IsTwinAt}
-use Rattle.root_anchor.specs.Gaps.{says_added, linked, Fills, MeetsOneMore, HasBelow, IsGapBelow}
+use Rattle.root_anchor.specs.inside.Finding.{IsTwinAt}
+use Rattle.root_anchor.specs.inside.Gaps.{says_added, linked, Fills, MeetsOneMore, HasBelow, IsGapBelow}
 use Rattle.root_anchor.proofs.AloneLemmas.{rolled_bytes, rolled_below, made_root}
 use Rattle.root_anchor.proofs.FindingLemmas.{twin_first, twin_later}
 use Rattle.root_anchor.proofs.Framing.{Stay, rows_keep, rows_stay, roots_keep}

@@ -18,15 +18,16 @@ use Rattle.root_changes.proofs.ComparingLemmas.{shifted, front_same, rest_same, 
 use Rattle.root_anchor.specs.declared.gaps.Gap.{Gap}
 use Rattle.root_anchor.specs.declared.gaps.Link.TheVariants.{FirstChild}
 use Rattle.root_anchor.specs.Chains.{AreRows, AreRoots, newest}
-use Rattle.root_anchor.specs.Finding.{IsTwinAt}
-use Rattle.root_anchor.specs.Gaps.{Fills, FitsGap, IsGapBelow, IsGapBehind, IsGapInRoots, HasThese}
+use Rattle.root_anchor.specs.inside.Finding.{IsTwinAt}
+use Rattle.root_anchor.specs.inside.Gaps.{Fills, FitsGap, IsGapBelow, IsGapBehind, IsGapInRoots, HasThese}
 use Rattle.root_anchor.proofs.FindingLemmas.{FirstAt, count_of, first_at, last_has}
 use Rattle.root_anchor.proofs.GapLemmas.{RowFilled, RootsFilled, lone_stands, row_twins, row_behind, row_below, below_in_row, below_in_front, root_twins, root_behind, root_below}
 use Rattle.root_anchor.proofs.Members.{none_in}
 use Rattle.root_anchor.proofs.OneChain.{one_segment}
 use Rattle.root_anchor.proofs.TypeLemmas.{row-node, rows-count}
-use Rattle.root_anchor.specs.Rebuilding.{IsDirect}
-use Rattle.root_anchor.specs.Stored.{row_has_form, rows_have_form}
+use Rattle.root_anchor.specs.inside.Rebuilding.{IsDirect}
+use Rattle.root_anchor.specs.Stored.{rows_have_form}
+use Rattle.root_anchor.specs.inside.Stored.{row_has_form}
 
 -- ---- lists
 

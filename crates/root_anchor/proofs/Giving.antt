@@ -8,8 +8,8 @@ use Rattle.ci_space.specs.Interval.{IsUsed}
 use Rattle.ci_overflow.specs.Lists.{bytes_at, IsInOrder}
 use Rattle.ci_overflow.specs.Freed.{TakesBack, GivesBack}
 use Rattle.anchor_elements.specs.Elements.{Pointer}
-use Rattle.root_anchor.specs.Standing.{places_of}
-use Rattle.root_anchor.specs.Rebuilding.{AreApart, Exchanges, AreGivable}
+use Rattle.root_anchor.specs.inside.Standing.{places_of}
+use Rattle.root_anchor.specs.inside.Rebuilding.{AreApart, Exchanges, AreGivable}
 use Rattle.root_anchor.specs.declared.standing.Standing.{Standing}
 use Rattle.root_anchor.proofs.Apart.{contains-one, apart-disjoint}
 use Rattle.root_anchor.proofs.Members.{front_in, behind_in, in_cases}

@@ -15,7 +15,7 @@ use Rattle.anchor_elements.specs.Elements.{Pointer, nothing, content_length}
 use Rattle.anchor_elements.specs.Puts.{PutsSegment}
 use Rattle.root_anchor.specs.Chains.{newest}
 use Rattle.anchor_elements.specs.Elements.{AreTypes}
-use Rattle.root_anchor.specs.Rebuilding.{Exchanges, StandIn, IsPlaced, HaveRoom, AreReserved, and_place, reserved, types_of, IsPlanned, RowsStand, RootsStand, BuildsRows, BuildsRoots, BuildsSegment, types_step, types_below, types_in_rows, types_of_row, types_of_rows, types_of_segment, types_of_roots}
+use Rattle.root_anchor.specs.inside.Rebuilding.{Exchanges, StandIn, IsPlaced, HaveRoom, AreReserved, and_place, reserved, types_of, IsPlanned, RowsStand, RootsStand, BuildsRows, BuildsRoots, BuildsSegment, types_step, types_below, types_in_rows, types_of_row, types_of_rows, types_of_segment, types_of_roots}
 use Rattle.root_anchor.specs.declared.plan.Planned.{Planned}
 use Rattle.root_anchor.proofs.Exchanging.{exchange-both}
 use Rattle.root_anchor.proofs.PutLemmas.{segment_stays}

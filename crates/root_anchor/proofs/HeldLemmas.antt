@@ -3,7 +3,7 @@ use Rattle.std.proofs.Common.{◌≡◌, ◌∙◌, ℕ, List, length, sym, ap, 
 use Rattle.held_intervals.specs.Holding.{Changes, overlaid, AreRead, IsToldHeld}
 use Rattle.held_intervals.proofs.Holds.{begun_told, none_changed}
 use Rattle.std.specs.Prelude.{None}
-use Rattle.root_anchor.specs.Walking.{IsLook}
+use Rattle.root_anchor.specs.inside.Walking.{IsLook}
 
 -- what is held is told, and it is what stood in the area before
 pub record Starts {I : Type 0} (told : I → Type 0) (intervals : I → List (List ℕ)) (number size : I → ℕ) (old begun : I)

@@ -18,7 +18,8 @@ use Rattle.fp_model.specs.Order.{child_types}
 use Rattle.fp_model.specs.WellFormed.{HavePlaces}
 use Rattle.root_anchor.specs.declared.plan.Planned.{Planned}
 use Rattle.root_anchor.specs.declared.standing.Standing.{Standing}
-use Rattle.root_anchor.specs.Keeping.{IsLastOf, IsPlanning, PlansAll, kept, keys_below, keys_in_rows, keys_of_row, keys_of_rows, keys_of_roots, keys_of_segment, keys_step, marks_of}
+use Rattle.root_anchor.specs.Keeping.{keys_below, keys_in_rows, keys_of_rows, keys_of_roots, keys_of_segment, keys_step}
+use Rattle.root_anchor.specs.inside.Keeping.{IsLastOf, IsPlanning, PlansAll, kept, keys_of_row, marks_of}
 use Rattle.root_anchor.proofs.TypeLemmas.{child-behind}
 
 -- ---- the keys in one more segment or row

@@ -13,9 +13,10 @@ use Rattle.fp_model.specs.declared.database.Root.{Root}
 use Rattle.fp_model.specs.Order.{child_types, key_in}
 use Rattle.anchor_elements.specs.Elements.{Pointer, Segment, HasSegment}
 use Rattle.root_anchor.specs.Chains.{AreRows, no_row, row_end, segment, AreRoots, no_root, root, IsChain}
-use Rattle.root_anchor.specs.Keeping.{KeepsElements, kept, keys_below, keys_of_row, keys_of_rows, keys_of_roots, keys_of_segment, keys_step, marks_of}
-use Rattle.root_anchor.specs.Rebuilding.{ArePlaced, met_after, reserved}
-use Rattle.root_anchor.specs.Standing.{places_of, Stands, AreKeyed}
+use Rattle.root_anchor.specs.Keeping.{KeepsElements, keys_below, keys_of_rows, keys_of_roots, keys_of_segment, keys_step}
+use Rattle.root_anchor.specs.inside.Keeping.{kept, keys_of_row, marks_of}
+use Rattle.root_anchor.specs.inside.Rebuilding.{ArePlaced, met_after, reserved}
+use Rattle.root_anchor.specs.inside.Standing.{places_of, Stands, AreKeyed}
 use Rattle.root_anchor.specs.declared.standing.Standing.{Standing}
 use Rattle.root_anchor.proofs.Apart.{met-append}
 use Rattle.root_anchor.proofs.Members.{front_in, behind_in}

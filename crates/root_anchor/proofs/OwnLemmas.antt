@@ -12,8 +12,8 @@ use Rattle.ci_overflow.proofs.Tries.{head-owner, keeps-owner}
 use Rattle.fp_model.specs.declared.definitions.SegDef.{SegDef}
 use Rattle.anchor_elements.specs.Elements.{Pointer, Segment}
 use Rattle.anchor_elements.specs.Puts.{PutsSegment}
-use Rattle.root_anchor.specs.Puts.{PutsRoot}
-use Rattle.root_anchor.specs.Rebuilding.{HadOrOwn, StandIn}
+use Rattle.root_anchor.specs.inside.Puts.{PutsRoot}
+use Rattle.root_anchor.specs.inside.Rebuilding.{HadOrOwn, StandIn}
 use Rattle.root_anchor.proofs.PutLemmas.{put_keeps_head}
 
 same_owner : (old new : List ℕ) → (head_of new).owner ≡ (head_of old).owner → owner_of new ≡ owner_of old

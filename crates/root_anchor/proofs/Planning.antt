@@ -7,7 +7,7 @@ use Rattle.ci_space.specs.Interval.{HasUsed, IsUsed, HasRoom}
 use Rattle.ci_overflow.specs.Lists.{bytes_at}
 use Rattle.fp_model.specs.declared.definitions.SegDef.{SegDef}
 use Rattle.anchor_elements.specs.Elements.{Pointer, content_length}
-use Rattle.root_anchor.specs.Rebuilding.{AreApart, Exchanges, and_place, reserved, types_of, HaveRooms, ArePlaced, AreReserved, IsPlanned, StandIn}
+use Rattle.root_anchor.specs.inside.Rebuilding.{AreApart, Exchanges, and_place, reserved, types_of, HaveRooms, ArePlaced, AreReserved, IsPlanned, StandIn}
 use Rattle.root_anchor.specs.declared.plan.Planned.{Planned}
 use Rattle.root_anchor.proofs.OwnLemmas.{stand-both}
 use Rattle.root_anchor.proofs.Apart.{apart-left, apart-right, apart-disjoint}

@@ -22,7 +22,7 @@ use Rattle.root_anchor.specs.Chains.{anchor_count, root_of}
 use Rattle.root_anchor.specs.Stored.{KeepsSequential}
 use Rattle.anchor_elements.specs.Puts.{PutsSegment}
 use Rattle.anchor_elements.proofs.Pointers.{same_pointer}
-use Rattle.root_anchor.specs.Puts.{PutsRoot}
+use Rattle.root_anchor.specs.inside.Puts.{PutsRoot}
 
 -- ---- places
 

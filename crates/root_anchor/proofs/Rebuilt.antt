@@ -12,13 +12,13 @@ use Rattle.fp_model.specs.declared.database.Root.{Root}
 use Rattle.anchor_elements.specs.Elements.{Pointer}
 use Rattle.root_anchor.specs.Chains.{IsChain, AreRoots, anchor_count, root_of}
 use Rattle.root_anchor.specs.Formed.{IsFormed, HasChain, HasRoots, Meets, IsMet, NewAreOwn}
-use Rattle.root_anchor.specs.Puts.{PutsRoot}
+use Rattle.root_anchor.specs.inside.Puts.{PutsRoot}
 use Rattle.root_anchor.specs.Stored.{KeepsSequential, OthersKeep, ApartKeep}
 use Rattle.std.proofs.lemmas.List.{append-nil}
-use Rattle.root_anchor.specs.Standing.{places_of, AreStanding}
+use Rattle.root_anchor.specs.inside.Standing.{places_of, AreStanding}
 use Rattle.root_anchor.specs.declared.plan.Planned.{Planned}
 use Rattle.root_anchor.specs.declared.standing.Standing.{Standing}
-use Rattle.root_anchor.specs.Rebuilding.{Exchanges, RootsStand, met_after, reserved, types_of, types_of_roots, ArePlaced, AreReserved, BuildsPlan, AreGivable, IsRebuildable, Rebuilds, Shares}
+use Rattle.root_anchor.specs.inside.Rebuilding.{Exchanges, RootsStand, met_after, reserved, types_of, types_of_roots, ArePlaced, AreReserved, BuildsPlan, AreGivable, IsRebuildable, Rebuilds, Shares}
 use Rattle.root_anchor.proofs.Planning.{rooms-stay, rooms-used}
 use Rattle.root_anchor.proofs.Sharing.{plan-reserved}
 use Rattle.std.proofs.lemmas.List.Elements.{Contains-append_left, Contains-append_right}

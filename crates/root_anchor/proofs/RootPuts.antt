@@ -11,7 +11,7 @@ use Rattle.ci_overflow.specs.Rooms.{IsPut}
 use Rattle.ci_overflow.proofs.Joins.{tiles-used, tiles-interval}
 use Rattle.anchor_elements.specs.Elements.{Pointer}
 use Rattle.anchor_elements.proofs.ElementLemmas.{put_itself}
-use Rattle.root_anchor.specs.Puts.{PutsRoot}
+use Rattle.root_anchor.specs.inside.Puts.{PutsRoot}
 
 pub puts_root : (shape : Shape) (old middle new : List (List ℕ)) (was now : List ℕ) (anchor : ℕ) (at : Pointer)
     (base : ℕ) (head : Head) → base ≡ base_of shape anchor → middle ≡ old → was ≡ bytes_at old base

@@ -8,7 +8,7 @@ use Rattle.fp_model.specs.declared.database.Root.{Root}
 use Rattle.fp_model.specs.Order.{child_types}
 use Rattle.anchor_elements.specs.Elements.{Pointer, nothing, Segment, HasSegment}
 use Rattle.root_anchor.specs.Chains.{AreRows, no_row, row_end, segment, newest, AreRoots, no_root, root}
-use Rattle.root_anchor.specs.Rebuilding.{AreApart, met_after, RowsStand, RootsStand}
+use Rattle.root_anchor.specs.inside.Rebuilding.{AreApart, met_after, RowsStand, RootsStand}
 use Rattle.root_anchor.proofs.Apart.{apart-disjoint, met-cases, met-append}
 use Rattle.root_anchor.proofs.Members.{front_in, behind_in, in_cases}
 use Rattle.root_anchor.proofs.Framing.{rows_stay, roots_stay}

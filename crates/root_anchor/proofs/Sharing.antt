@@ -8,8 +8,8 @@ use Rattle.ci_space.specs.Interval.{HasRoom}
 use Rattle.ci_overflow.specs.Lists.{bytes_at}
 use Rattle.fp_model.specs.declared.definitions.SegDef.{SegDef}
 use Rattle.anchor_elements.specs.Elements.{Pointer, content_length}
-use Rattle.root_anchor.specs.Standing.{places_of, Stands, AreStanding}
-use Rattle.root_anchor.specs.Rebuilding.{AreApart, reserved, HaveRoom, HaveRooms, AreReserved, TakesOut, IsOneOf, AreTyped, Shares}
+use Rattle.root_anchor.specs.inside.Standing.{places_of, Stands, AreStanding}
+use Rattle.root_anchor.specs.inside.Rebuilding.{AreApart, reserved, HaveRoom, HaveRooms, AreReserved, TakesOut, IsOneOf, AreTyped, Shares}
 use Rattle.root_anchor.specs.declared.plan.Planned.{Planned}
 use Rattle.root_anchor.specs.declared.standing.Standing.{Standing}
 use Rattle.root_anchor.proofs.Apart.{apart-left, apart-pairs}

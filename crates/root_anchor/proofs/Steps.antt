@@ -16,7 +16,7 @@ use Rattle.ci_space.specs.declared.head.Head.{Head}
 use Rattle.fp_model.specs.declared.definitions.SegDef.{SegDef}
 use Rattle.anchor_elements.specs.Elements.{Pointer, Segment, content_length}
 use Rattle.anchor_elements.specs.Puts.{PutsSegment}
-use Rattle.root_anchor.specs.Rebuilding.{Exchanges, and_place, HaveRoom, TakesPlace}
+use Rattle.root_anchor.specs.inside.Rebuilding.{Exchanges, and_place, HaveRoom, TakesPlace}
 use Rattle.root_anchor.proofs.Exchanging.{exchange-again}
 use Rattle.root_anchor.specs.Chains.{anchor_count}
 use Rattle.root_anchor.proofs.PutLemmas.{uow_below, put_keeps_order, put_keeps_head, put_keeps_kinds, put_keeps_sequential}

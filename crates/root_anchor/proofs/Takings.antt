@@ -9,7 +9,7 @@ use Rattle.ci_overflow.specs.Rooms.{IsOwnRoom}
 use Rattle.fp_model.specs.declared.definitions.SegDef.{SegDef}
 use Rattle.fp_model.specs.declared.database.Root.{Root}
 use Rattle.anchor_elements.specs.Elements.{Pointer}
-use Rattle.root_anchor.specs.Rebuilding.{ArePlaced, AreReserved, BuildsPlan, BuildsRoots, Exchanges, HaveRoom, IsDirect, IsPlaced, IsPlanned, IsTaking, TakesPlace, TakesPlaces, and_place, reserved, types_of, types_of_roots}
+use Rattle.root_anchor.specs.inside.Rebuilding.{ArePlaced, AreReserved, BuildsPlan, BuildsRoots, Exchanges, HaveRoom, IsDirect, IsPlaced, IsPlanned, IsTaking, TakesPlace, TakesPlaces, and_place, reserved, types_of, types_of_roots}
 use Rattle.root_anchor.specs.declared.plan.Planned.{Planned}
 use Rattle.root_anchor.proofs.Exchanging.{exchange-again, exchange-both}
 use Rattle.root_anchor.proofs.Members.{front_in, behind_in, in_cases}

@@ -13,8 +13,9 @@ use Rattle.fp_model.specs.declared.definitions.SegDef.{SegDef}
 use Rattle.fp_model.specs.WellFormed.{HavePlaces, EachFits, stored_length, in_fours, has_sequential}
 use Rattle.anchor_elements.specs.Elements.{has_serial, serial_length, segment_length, content_length}
 use Rattle.anchor_elements.specs.Elements.{AreTypes}
-use Rattle.root_anchor.specs.Stored.{is_newest, is_storable, are_storable, form_step, is_in_form, row_has_form, rows_have_form}
-use Rattle.root_anchor.specs.Rebuilding.{IsDirect}
+use Rattle.root_anchor.specs.Stored.{is_newest, is_storable, are_storable, form_step, is_in_form, rows_have_form}
+use Rattle.root_anchor.specs.inside.Stored.{row_has_form}
+use Rattle.root_anchor.specs.inside.Rebuilding.{IsDirect}
 
 -- ---- what a type fits into
 

@@ -20,8 +20,8 @@ use Rattle.fp_model.specs.declared.definitions.SegDef.{SegDef}
 use Rattle.fp_model.specs.Order.{key_in}
 use Rattle.anchor_elements.specs.Elements.{Pointer, Segment, HasSegment}
 use Rattle.anchor_elements.specs.Wrong.{IsWrong, leads_back}
-use Rattle.root_anchor.specs.Standing.{places_of, Stands}
-use Rattle.root_anchor.specs.Walking.{place_cmp, met_of, IsWalk, IsNoted, AllStand}
+use Rattle.root_anchor.specs.inside.Standing.{places_of, Stands}
+use Rattle.root_anchor.specs.inside.Walking.{place_cmp, met_of, IsWalk, IsNoted, AllStand}
 use Rattle.root_anchor.proofs.OneChain.{one_segment}
 use Rattle.root_anchor.proofs.Members.{none_in, front_in, behind_in, in_cases}
 

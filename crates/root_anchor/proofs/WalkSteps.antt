@@ -20,7 +20,7 @@ use Rattle.root_anchor.specs.Chains.{AreRows, no_row, row_end, segment, newest, 
 use Rattle.anchor_elements.specs.Wrong.{IsWrong}
 use Rattle.root_anchor.specs.Damage.{RowsFail, here, below, at_twin, next_row, RootsFail, root_here, below_root, next_root}
 use Rattle.anchor_elements.specs.Reading.{types_of, pointers_of, segment_of}
-use Rattle.root_anchor.specs.Walking.{IsWalk, WalksOn, AllStand, IsLook, IsRow, RowFails, IsAlong, IsAmong, IsAlongRoots}
+use Rattle.root_anchor.specs.inside.Walking.{IsWalk, WalksOn, AllStand, IsLook, IsRow, RowFails, IsAlong, IsAmong, IsAlongRoots}
 use Rattle.root_anchor.proofs.WalkLemmas.{few_met}
 
 -- ---- one look after another

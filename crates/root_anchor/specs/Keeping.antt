@@ -1,5 +1,5 @@
 -- Segments that keep their elements where an anchor is stored.
-use Rattle.std.specs.Prelude.{◌≡◌, ◌≢◌, ℕ, List, [], ◌∷◌, ◌++◌, length, map, flat_map, All, Some}
+use Rattle.std.specs.Prelude.{◌≡◌, ℕ, List, [], ◌∷◌, ◌++◌, map, flat_map}
 use Rattle.ci_space.specs.declared.intervals.Shape.{Shape}
 use Rattle.fp_model.specs.declared.definitions.SegDef.{SegDef}
 use Rattle.fp_model.specs.declared.database.Node.{Node}
@@ -9,8 +9,6 @@ use Rattle.fp_model.specs.declared.database.Root.{Root}
 use Rattle.fp_model.specs.Order.{child_types, key_in}
 use Rattle.anchor_elements.specs.Elements.{Pointer}
 use Rattle.root_anchor.specs.Chains.{IsChain}
-use Rattle.root_anchor.specs.declared.plan.Planned.{Planned}
-use Rattle.root_anchor.specs.declared.standing.Standing.{Standing}
 
 -- ---- the type and the key of each segment, in hierarchical order
 
@@ -25,9 +23,6 @@ keys_step types node type = (type, key_in types type node.bytes) ∷ keys_in_row
 -- of a segment and all below it
 abbrev pub keys_below : List SegDef → Node → ℕ → List (ℕ × List ℕ)
 keys_below types = fold-Node (ℕ → List (ℕ × List ℕ)) (keys_step types)
-
-abbrev pub keys_of_row : List SegDef → ℕ → List Node → List (ℕ × List ℕ)
-keys_of_row types type row = flat_map (λ node. node type) (map (keys_below types) row)
 
 abbrev pub keys_of_rows : List SegDef → List ℕ → List (List Node) → List (ℕ × List ℕ)
 keys_of_rows types kinds rows = keys_in_rows kinds (map (map (keys_below types)) rows)
@@ -46,40 +41,3 @@ pub record KeepsElements (shape : Shape) (types : List SegDef) (old new : List (
     (roots : List Root) : Type 0 where
   pub keep : (before : List Root) (elements : List Pointer) → IsChain shape types old anchor before elements
       → keys_of_roots types before ≡ keys_of_roots types roots → IsChain shape types new anchor roots elements
-
--- ---- a plan in which each segment has the element that it had
-
-abbrev pub marks_of : List Standing → List (ℕ × List ℕ)
-marks_of list = map (λ s. (s.segment, s.key)) list
-
-abbrev pub kept : List Standing → List Planned
-kept list = map (λ s. record { segment = s.segment; at = Some s.at }) list
-
--- The last of these elements are planned for the segments that have their types and keys: they are taken out, and stand
--- in front of the plan.
-pub record PlansAll (before part standing : List Standing) (to : ℕ) (old new : List Planned) : Type 0 where
-  pub left : standing ≡ before
-  pub ends : to ≡ length before
-  pub planned : new ≡ kept part ++ old
-
--- so it is for some of them, and those in front of them are left, which have these types and keys
-pub record IsPlanning (before part standing : List Standing) (to : ℕ) (old now : List Planned)
-    (marks : List (ℕ × List ℕ)) : Type 0 where
-  pub rest : List Standing
-  pub done : List Standing
-  pub parts : part ≡ rest ++ done
-  pub are : marks_of rest ≡ marks
-  pub left : standing ≡ before ++ rest
-  pub ends : to ≡ length standing
-  pub planned : now ≡ kept done ++ old
-
--- the last of these elements that has this type is the one at a place, and it has this key
-pub record IsLastOf (standing : List Standing) (segment : ℕ) (key : List ℕ) (place : ℕ) : Type 0 where
-  pub before : List Standing
-  pub one : Standing
-  pub below : List Standing
-  pub parts : standing ≡ before ++ one ∷ below
-  pub is_place : place ≡ length before
-  pub is_segment : one.segment ≡ segment
-  pub is_key : one.key ≡ key
-  pub others : All (λ s. s.segment ≢ segment) below

@@ -6,10 +6,6 @@ pub mod Roots
 pub mod Newest
 pub mod Differing
 pub mod Stored
-pub mod Puts
-pub mod Standing
-pub mod Rebuilding
-pub mod Walking
-pub mod Finding
 pub mod Gaps
 pub mod Keeping
+pub mod inside

@@ -33,9 +33,6 @@ form_step types node type = has_length types type node.bytes && rows_in_form (ch
 abbrev pub is_in_form : List SegDef → Node → ℕ → Bool
 is_in_form types = fold-Node (ℕ → Bool) (form_step types)
 
-abbrev pub row_has_form : List SegDef → ℕ → List Node → Bool
-row_has_form types type row = list_all (λ node. node type) (map (is_in_form types) row)
-
 abbrev pub rows_have_form : List SegDef → List ℕ → List (List Node) → Bool
 rows_have_form types kinds rows = rows_in_form kinds (map (map (is_in_form types)) rows)
 

@@ -7,10 +7,10 @@ ghost use Rattle.ci_overflow.specs.Lists.{IsInPlace};
 ghost use Rattle.ci_overflow.specs.Places.{base_of};
 ghost use Rattle.root_anchor.specs.Chains.{anchor_count, root_of};
 ghost use Rattle.root_anchor.specs.Damage.{ChainFails};
-ghost use Rattle.root_anchor.specs.Standing.{AreKeyed};
+ghost use Rattle.root_anchor.specs.inside.Standing.{AreKeyed};
 ghost use Rattle.anchor_elements.specs.Elements.{AreTypes};
 ghost use Rattle.root_anchor.specs.Stored.{are_storable};
-ghost use Rattle.root_anchor.specs.Walking.{IsLook, IsWalked};
+ghost use Rattle.root_anchor.specs.inside.Walking.{IsLook, IsWalked};
 
 use crate::standing::Standing;
 use crate::walk::{Walk, roots};

@@ -9,8 +9,9 @@ ghost use Rattle.fp_lists.specs.Faults.{Rose};
 ghost use Rattle.fp_model.specs.Order.{child_types};
 ghost use Rattle.anchor_elements.specs.Elements.{Pointer as PointerOf, has_serial, nothing, segment_length, AreTypes};
 ghost use Rattle.root_anchor.specs.Chains.{newest};
-ghost use Rattle.root_anchor.specs.Stored.{are_storable, is_newest, row_has_form, rows_have_form};
-ghost use Rattle.root_anchor.specs.Rebuilding.{IsDirect, IsPlanned, BuildsSegment, BuildsRows, BuildsRoots, types_of_row, types_of_rows, types_of_roots, types_of_segment};
+ghost use Rattle.root_anchor.specs.Stored.{are_storable, is_newest, rows_have_form};
+ghost use Rattle.root_anchor.specs.inside.Stored.{row_has_form};
+ghost use Rattle.root_anchor.specs.inside.Rebuilding.{IsDirect, IsPlanned, BuildsSegment, BuildsRows, BuildsRoots, types_of_row, types_of_rows, types_of_roots, types_of_segment};
 ghost use Rattle.root_anchor.specs.declared.plan.Planned.{Planned as PlannedOf};
 ghost use Rattle.fp_model.specs.declared.definitions.SegDef.{SegDef as SegDefOf};
 

@@ -14,11 +14,12 @@ ghost use Rattle.anchor_elements.specs.Reading.{types_of, pointers_of, segment_o
 ghost use Rattle.root_anchor.specs.Chains.{anchor_count, root_of};
 ghost use Rattle.root_changes.specs.Differing.{DifferIn, RowDiffers, RootsDiffer};
 ghost use Rattle.root_anchor.specs.Differing.{RowsDifferIn, RootsDifferIn};
-ghost use Rattle.root_anchor.specs.Finding.{IsTwinAt, GiveRows, GivesRow, GivesRoots, RowDiffersIn, FitsType, says_of};
+ghost use Rattle.root_anchor.specs.inside.Finding.{IsTwinAt, GiveRows, GivesRow, GivesRoots, RowDiffersIn, FitsType, says_of};
 ghost use Rattle.root_anchor.specs.Formed.{HasRoots};
-ghost use Rattle.root_anchor.specs.Rebuilding.{IsDirect};
-ghost use Rattle.root_anchor.specs.Stored.{are_storable, row_has_form, rows_have_form};
-ghost use Rattle.root_anchor.specs.Walking.{IsLook};
+ghost use Rattle.root_anchor.specs.inside.Rebuilding.{IsDirect};
+ghost use Rattle.root_anchor.specs.Stored.{are_storable, rows_have_form};
+ghost use Rattle.root_anchor.specs.inside.Stored.{row_has_form};
+ghost use Rattle.root_anchor.specs.inside.Walking.{IsLook};
 
 use crate::anchor::{base_of, root_anchor_point};
 use crate::building::newest_of;

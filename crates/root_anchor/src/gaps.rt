@@ -12,11 +12,11 @@ ghost use Rattle.fp_model.specs.WellFormed.{HavePlaces};
 ghost use Rattle.anchor_elements.specs.Elements.{AreTypes, Segment, HasSegment, has_serial, segment_length, Pointer as PointerOf};
 ghost use Rattle.anchor_elements.specs.Reading.{types_of, pointers_of, segment_of};
 ghost use Rattle.root_changes.specs.Telling.{GainIn, TellsRootGain};
-ghost use Rattle.root_anchor.specs.Finding.{IsTwinAt, GiveRows, GivesRoots};
-ghost use Rattle.root_anchor.specs.Gaps.{IsGapBehind, IsGapBelow, IsGapInRoots, FitsAdded, FitsGap};
-ghost use Rattle.root_anchor.specs.Rebuilding.{IsDirect};
+ghost use Rattle.root_anchor.specs.inside.Finding.{IsTwinAt, GiveRows, GivesRoots};
+ghost use Rattle.root_anchor.specs.inside.Gaps.{IsGapBehind, IsGapBelow, IsGapInRoots, FitsAdded, FitsGap};
+ghost use Rattle.root_anchor.specs.inside.Rebuilding.{IsDirect};
 ghost use Rattle.root_anchor.specs.Stored.{are_storable, rows_have_form};
-ghost use Rattle.root_anchor.specs.Walking.{IsLook};
+ghost use Rattle.root_anchor.specs.inside.Walking.{IsLook};
 
 use crate::building::newest_of;
 use crate::finding::{Twin, twin_at};

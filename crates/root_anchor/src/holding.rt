@@ -9,7 +9,7 @@ ghost use Rattle.fp_model.specs.declared.definitions.SegDef.{SegDef};
 ghost use Rattle.held_intervals.specs.Holding.{overlaid, AreRead, Fit};
 ghost use Rattle.root_anchor.specs.Chains.{anchor_count};
 ghost use Rattle.root_anchor.specs.Damage.{ChainFails};
-ghost use Rattle.root_anchor.specs.Walking.{IsLook};
+ghost use Rattle.root_anchor.specs.inside.Walking.{IsLook};
 
 use crate::anchor::base_of;
 use anchor_elements::{AnchorFault, interval_at};

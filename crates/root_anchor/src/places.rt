@@ -7,7 +7,7 @@ ghost use Rattle.anchor_elements.specs.Elements.{AreTypes};
 ghost use Rattle.root_anchor.specs.Chains.{anchor_count};
 ghost use Rattle.root_anchor.specs.Formed.{HasChain};
 ghost use Rattle.root_anchor.specs.Roots.{HasRootAt, HasFewer, RootsAreBroken};
-ghost use Rattle.root_anchor.specs.Walking.{IsLook};
+ghost use Rattle.root_anchor.specs.inside.Walking.{IsLook};
 
 use crate::anchor::{base_of, root_anchor_point};
 use crate::walk::is_nothing;

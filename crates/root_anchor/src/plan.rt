@@ -9,9 +9,11 @@
 ghost use Rattle.std.specs.Prelude.{◌≡◌, ◌<◌, ◌≤◌, ◌+◌, ◌++◌, ◌∷◌, [], ℕ, List, OnOk, IfOk, IsErr, Err, IfSome, IfNone, Some, length, map, true};
 ghost use Rattle.fp_model.specs.Order.{child_types, key_in as key_of_type};
 ghost use Rattle.fp_model.specs.WellFormed.{HavePlaces};
-ghost use Rattle.root_anchor.specs.Stored.{are_storable, row_has_form, rows_have_form};
-ghost use Rattle.root_anchor.specs.Rebuilding.{types_of, types_of_row, types_of_rows, types_of_roots, types_of_segment, TakesOut, Shares};
-ghost use Rattle.root_anchor.specs.Keeping.{IsLastOf, PlansAll, kept, keys_of_row, keys_of_rows, keys_of_roots, keys_of_segment, marks_of};
+ghost use Rattle.root_anchor.specs.Stored.{are_storable, rows_have_form};
+ghost use Rattle.root_anchor.specs.inside.Stored.{row_has_form};
+ghost use Rattle.root_anchor.specs.inside.Rebuilding.{types_of, types_of_row, types_of_rows, types_of_roots, types_of_segment, TakesOut, Shares};
+ghost use Rattle.root_anchor.specs.Keeping.{keys_of_rows, keys_of_roots, keys_of_segment};
+ghost use Rattle.root_anchor.specs.inside.Keeping.{IsLastOf, PlansAll, kept, keys_of_row, marks_of};
 ghost use Rattle.root_anchor.specs.declared.standing.Standing.{Standing as StandingOf};
 
 use crate::building::types_below;

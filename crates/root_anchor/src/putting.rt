@@ -8,7 +8,7 @@ ghost use Rattle.ci_overflow.specs.Lists.{bytes_at, IsInPlace};
 ghost use Rattle.ci_overflow.specs.Places.{base_of};
 ghost use Rattle.ci_overflow.specs.Rooms.{IsPut};
 ghost use Rattle.root_anchor.specs.Chains.{anchor_count};
-ghost use Rattle.root_anchor.specs.Puts.{PutsRoot};
+ghost use Rattle.root_anchor.specs.inside.Puts.{PutsRoot};
 
 use crate::anchor::base_of;
 use anchor_elements::{AnchorFault, Pointer, interval_at, put};

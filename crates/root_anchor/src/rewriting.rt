@@ -15,7 +15,7 @@ ghost use Rattle.root_anchor.specs.Faults.{ListsFail};
 ghost use Rattle.root_changes.specs.Differing.{RootsDiffer};
 ghost use Rattle.root_changes.specs.Gaining.{RootsGain};
 ghost use Rattle.root_anchor.specs.Differing.{ChangesAlone};
-ghost use Rattle.root_anchor.specs.Finding.{FitsType, says_of};
+ghost use Rattle.root_anchor.specs.inside.Finding.{FitsType, says_of};
 ghost use Rattle.root_anchor.specs.Formed.{IsFormed, HasChain, HasRoots, NewAreOwn};
 ghost use Rattle.root_anchor.specs.Gaps.{AddsOne, FewChange, SegmentsStay};
 ghost use Rattle.root_anchor.specs.Keeping.{KeepsElements};

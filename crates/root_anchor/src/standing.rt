@@ -5,7 +5,7 @@ ghost use Rattle.ci_space.specs.Calls.{GoesOn};
 ghost use Rattle.fp_lists.specs.Faults.{Rose};
 ghost use Rattle.root_anchor.specs.Chains.{anchor_count};
 ghost use Rattle.root_anchor.specs.Damage.{ChainFails};
-ghost use Rattle.root_anchor.specs.Standing.{AreStanding, AreInTurn, AreKeyed};
+ghost use Rattle.root_anchor.specs.inside.Standing.{AreStanding, AreInTurn, AreKeyed};
 ghost use Rattle.anchor_elements.specs.Elements.{AreTypes};
 
 use crate::anchor::{Walked, walk_anchor};

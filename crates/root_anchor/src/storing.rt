@@ -15,8 +15,8 @@ ghost use Rattle.root_anchor.specs.Formed.{IsFormed, HasChain, HasRoots, NewAreO
 ghost use Rattle.root_anchor.specs.Keeping.{KeepsElements};
 ghost use Rattle.anchor_elements.specs.Elements.{AreTypes};
 ghost use Rattle.root_anchor.specs.Stored.{are_storable, ApartKeep, OthersKeep, KeepsSequential};
-ghost use Rattle.root_anchor.specs.Standing.{places_of};
-ghost use Rattle.root_anchor.specs.Rebuilding.{ArePlaced, Exchanges, AreGivable, IsRebuildable, Rebuilds, met_after, reserved, types_of, types_of_roots};
+ghost use Rattle.root_anchor.specs.inside.Standing.{places_of};
+ghost use Rattle.root_anchor.specs.inside.Rebuilding.{ArePlaced, Exchanges, AreGivable, IsRebuildable, Rebuilds, met_after, reserved, types_of, types_of_roots};
 
 use crate::building::{Home, build_roots, fault_of};
 use crate::holding::{Begun, begin, rest, settle};

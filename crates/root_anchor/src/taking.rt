@@ -13,7 +13,7 @@ ghost use Rattle.ci_overflow.specs.Places.{uow_of};
 ghost use Rattle.anchor_elements.specs.Elements.{AreTypes, Pointer};
 ghost use Rattle.root_anchor.specs.Chains.{anchor_count};
 ghost use Rattle.root_anchor.specs.Faults.{ComesTo, FaultComes};
-ghost use Rattle.root_anchor.specs.Rebuilding.{ArePlaced, AreReserved, HaveRoom, IsDirect, TakesPlace, TakesPlaces, types_of};
+ghost use Rattle.root_anchor.specs.inside.Rebuilding.{ArePlaced, AreReserved, HaveRoom, IsDirect, TakesPlace, TakesPlaces, types_of};
 
 use crate::building::{Home, fault_of};
 use crate::plan::Planned;

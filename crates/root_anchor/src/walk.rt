@@ -13,8 +13,9 @@ ghost use Rattle.root_anchor.specs.Chains.{AreRows, AreRoots, newest};
 ghost use Rattle.anchor_elements.specs.Wrong.{IsWrong};
 ghost use Rattle.root_anchor.specs.Damage.{RowsFail, RootsFail};
 ghost use Rattle.anchor_elements.specs.Reading.{types_of, pointers_of, segment_of};
-ghost use Rattle.root_anchor.specs.Stored.{are_storable, row_has_form, rows_have_form};
-ghost use Rattle.root_anchor.specs.Walking.{met_of, IsWalk, IsNoted, WalksOn, AllStand, IsLook, IsRow, RowFails};
+ghost use Rattle.root_anchor.specs.Stored.{are_storable, rows_have_form};
+ghost use Rattle.root_anchor.specs.inside.Stored.{row_has_form};
+ghost use Rattle.root_anchor.specs.inside.Walking.{met_of, IsWalk, IsNoted, WalksOn, AllStand, IsLook, IsRow, RowFails};
 
 use crate::standing::Standing;
 use anchor_elements::{AnchorFault, First, Pointer, Said, read_element};

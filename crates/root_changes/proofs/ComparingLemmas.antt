@@ -8,7 +8,8 @@ use Rattle.fp_model.specs.declared.database.Root.{Root}
 use Rattle.root_changes.specs.declared.differing.Difference.{Difference}
 use Rattle.root_changes.specs.declared.differing.Difference.TheVariants.{Nowhere, Itself, At, More}
 use Rattle.root_changes.specs.Differing.{DifferAt, DifferIn, NodesDiffer, own, lower, RowDiffers, RootDiffers, own_root, lower_root, HaveSameOwn}
-use Rattle.root_changes.specs.Comparing.{Tells, TellsPlace, TellsBelow, DifferSoFar, TellsSoFar, joined}
+use Rattle.root_changes.specs.Comparing.{TellsPlace, TellsBelow}
+use Rattle.root_changes.specs.inside.Comparing.{Tells, DifferSoFar, TellsSoFar, joined}
 
 pub same_or : (a b : ℕ) → (a ≡ b) ⊎ (a ≢ b)
 same_or a b = elim (cases_lt a b) as (λ _. (a ≡ b) ⊎ (a ≢ b)) [

@@ -10,8 +10,9 @@ use Rattle.root_changes.specs.Differing.{DifferAt, HaveSameOwn}
 use Rattle.root_changes.specs.Gaining.{OneMore, AreBare, RowGains, new_segment, lower_segment, RootsGain, new_root, below_root}
 use Rattle.root_changes.specs.declared.differing.Difference.{Difference}
 use Rattle.root_changes.specs.declared.differing.Difference.TheVariants.{Nowhere, Itself, At, More}
-use Rattle.root_changes.specs.Comparing.{Tells}
-use Rattle.root_changes.specs.Telling.{TellsNew, BeginAlike, HasNew, GainIn, GainWithin, TellsGain, IsOwnNode, node_rows, root_rows, TellsRowGain, TellsRootGain, TellsWithin}
+use Rattle.root_changes.specs.inside.Comparing.{Tells}
+use Rattle.root_changes.specs.Telling.{HasNew, GainIn, GainWithin, TellsGain, IsOwnNode, node_rows, root_rows, TellsRowGain, TellsRootGain}
+use Rattle.root_changes.specs.inside.Telling.{TellsNew, BeginAlike, TellsWithin}
 use Rattle.root_changes.proofs.ComparingLemmas.{same_or, below_or, all_same, shifted, rest_same, same_lengths, same_there, nodes_apart, roots_apart, rows_apart}
 
 -- ---- what two lists begin with in common

@@ -2,7 +2,8 @@
 
 ghost use Rattle.std.specs.Prelude.{◌≡◌, ◌↔◌, ◌<◌, ℕ, IsTrue, length};
 ghost use Rattle.fp_model.specs.declared.database.Node.{out-Node};
-ghost use Rattle.root_changes.specs.Comparing.{TellsPlace, TellsBelow, joined, one_more};
+ghost use Rattle.root_changes.specs.Comparing.{TellsPlace, TellsBelow};
+ghost use Rattle.root_changes.specs.inside.Comparing.{joined, one_more};
 ghost use Rattle.root_changes.specs.Differing.{NodesDiffer, RowDiffers, RootDiffers, HaveSameOwn};
 
 use fp_model::{Bytes, List, Node, Root, SeqItem};

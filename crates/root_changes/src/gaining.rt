@@ -7,7 +7,8 @@ ghost use Rattle.std.specs.Prelude.{◌≡◌, ◌↔◌, ◌<◌, ℕ, IsTrue, 
 ghost use Rattle.fp_model.specs.declared.database.Node.{out-Node};
 ghost use Rattle.root_changes.specs.Differing.{HaveSameOwn};
 ghost use Rattle.root_changes.specs.Gaining.{AreBare};
-ghost use Rattle.root_changes.specs.Telling.{BeginAlike, TellsRowGain, TellsRootGain, TellsWithin, TellsNew};
+ghost use Rattle.root_changes.specs.Telling.{TellsRowGain, TellsRootGain};
+ghost use Rattle.root_changes.specs.inside.Telling.{BeginAlike, TellsWithin, TellsNew};
 
 use crate::differing::{
     Difference, compare_nodes, compare_root, compare_row, same_bytes, same_own,

@@ -34,7 +34,8 @@ use Rattle.run_laws.specs.Starts.{IsFromSerial}
 use Rattle.drain_laws.proofs.Rounds.{reached_after}
 use Rattle.drain_laws.proofs.Foreseen.{call_needed, end_needed}
 use Rattle.drain_laws.proofs.SystemEnds.{end_laws_at}
-use Rattle.run_laws.specs.Requests.{IsCurrent, times_in, IsTidy}
+use Rattle.run_laws.specs.Requests.{IsCurrent, times_in}
+use Rattle.run_laws.specs.inside.Requests.{IsTidy}
 use Rattle.run_laws.specs.Fresh.{IsFresh}
 use Rattle.run_laws.proofs.Wanted.{needs_alike}
 use Rattle.run_laws.proofs.Tidy.{run_tidy, rest_tidy}

@@ -38,7 +38,8 @@ use Rattle.drain_laws.proofs.Live.{idle_is_not, is_transaction, same_region, oth
 use Rattle.serial_order.proofs.Turns.{turn_kept}
 use Rattle.drain_laws.proofs.Rounds.{reached_then}
 use Rattle.drain_laws.proofs.Sums.{gained_other}
-use Rattle.run_laws.specs.Requests.{IsCurrent, times_in, IsTidy, WantsByHeld}
+use Rattle.run_laws.specs.Requests.{IsCurrent, times_in}
+use Rattle.run_laws.specs.inside.Requests.{IsTidy, WantsByHeld}
 
 -- ---- how often a name is among others
 

@@ -5,3 +5,4 @@ pub mod Determined
 pub mod Starts
 pub mod Sample
 pub mod Holding
+pub mod inside

@@ -1,18 +1,10 @@
 -- Who is busy and who asks, in a machine that turns led to.
-use Rattle.std.specs.Prelude.{◌≡◌, ℕ, List, Option, Some, sum_by, if◌then◌else◌}
-use Rattle.std.specs.List.{Contains}
-use Rattle.fp_model.specs.declared.database.Db.{Db}
-use Rattle.fp_model.specs.declared.calls.Call.{Call}
-use Rattle.fp_model.specs.declared.calls.Mode.{Mode}
-use Rattle.fp_model.specs.declared.calls.Resource.{Resource}
+use Rattle.std.specs.Prelude.{◌≡◌, ℕ, List, Some, sum_by, if◌then◌else◌}
 use Rattle.fp_model.specs.declared.name.Name.{Name}
-use Rattle.fp_model.specs.Workspace.{Workspace}
 use Rattle.fp_model.specs.Rules.{Rules}
 use Rattle.fp_model.specs.Waiting.{Lock}
 use Rattle.fp_model.specs.Machine.{Transaction, Active, Machine, region_at, same_name}
 use Rattle.fp_model.specs.Turns.{asks, wanted}
-use Rattle.serial_order.specs.Laws.{View, IsSame}
-use Rattle.serial_order.specs.Kept.{count}
 
 -- A request of an active region, for the lock that it wants now.
 pub record IsCurrent (rules : Rules) (m : Machine) (request : Lock) : Type 0 where
@@ -24,17 +16,3 @@ pub record IsCurrent (rules : Rules) (m : Machine) (request : Lock) : Type 0 whe
 -- how often a terminal is among others
 abbrev pub times_in : List Name → Name → ℕ
 times_in names name = sum_by (λ n. if same_name name n then 1 else 0) names
-
--- What each turn keeps of terminals and requests.
-pub record IsTidy (rules : Rules) (m : Machine) : Type 0 where
-  -- A terminal is busy as often as it has a message queued, a transaction active or an entry unsealed.
-  pub busy : (name : Name) → times_in m.busy name ≡ count rules name m
-  -- each request that stands is by an active region, for the lock that it wants now
-  pub current : (request : Lock) → Contains m.requests request → IsCurrent rules m request
-
--- What it needs of the rules: which lock a call wants depends on what is held alone.
-abbrev pub WantsByHeld : Rules → View → Type 0
-WantsByHeld rules view =
-    (db db2 : Db) (own : Workspace) (held : Resource → Option Mode) (call : Call)
-    → IsSame view held db db2
-    → rules.need db2 own held call ≡ rules.need db own held call

@@ -1,9 +1,8 @@
 -- A root's sequential dependents, from the newest down.
 use Rattle.std.specs.Prelude.{◌≡◌, ℕ, List, [], ◌∷◌}
-use Rattle.ci_overflow.specs.Lists.{bytes_at}
 use Rattle.fp_model.specs.declared.database.SeqItem.{SeqItem}
 use Rattle.seq_dependents.specs.declared.part.Part.{Part}
-use Rattle.seq_dependents.specs.Slots.{IsHeld, IsSequential}
+use Rattle.seq_dependents.specs.Slots.{IsHeld}
 use Rattle.seq_dependents.specs.Control.{IsKept}
 
 -- this serial is kept and its slot holds the item, and a previous serial
@@ -18,8 +17,3 @@ abbrev pub IsDown : Part → List (List ℕ) → ℕ → List SeqItem → Type 0
 IsDown part area serial [] = ¬ IsKept area serial
 IsDown part area serial (item ∷ items) =
     (previous : ℕ) × IsItem part area serial previous item × IsDown part area previous items
-
--- these are the bytes of the sequential interval that stands there
-pub record IsRead (part : Part) (area : List (List ℕ)) (ci : ℕ) (bytes : List ℕ) : Type 0 where
-  pub is_bytes : bytes ≡ bytes_at area ci
-  pub in_place : IsSequential part area ci

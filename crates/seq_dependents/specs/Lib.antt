@@ -3,3 +3,4 @@ pub mod Control
 pub mod Faults
 pub mod Puts
 pub mod Down
+pub mod inside

@@ -13,7 +13,7 @@ use Rattle.fp_model.specs.SerialHistory.{Comes, IsSerialHistory, LeadsOn}
 use Rattle.fp_model.proofs.HistoryLemmas.{front, join, one_end}
 use Rattle.fp_restart.proofs.Fits.{entries-more}
 use Rattle.log_groups.proofs.LogImages.{groups_more}
-use Rattle.site_audit.specs.Judged.{AreHeld, AreJudged, AreRead, ComesTo, GoesOnTo, IsFirstBehind, IsOneRead}
+use Rattle.site_audit.specs.inside.Judged.{AreHeld, AreJudged, AreRead, ComesTo, GoesOnTo, IsFirstBehind, IsOneRead}
 use Rattle.site_audit.specs.Legal.{IsFirstIllegal}
 use Rattle.site_audit.specs.declared.auditing.Place.{Place}
 

@@ -17,7 +17,7 @@ use Rattle.fp_restart.proofs.Groups.{same_reading}
 use Rattle.log_groups.proofs.Fronts.{one_format, same_gate}
 use Rattle.log_groups.specs.Images.{BeginsFor, HoldsFor, in_format}
 use Rattle.log_groups.specs.Kept.{IsSound}
-use Rattle.site_audit.specs.Judged.{AreBroken, AreJudged, AreRead}
+use Rattle.site_audit.specs.inside.Judged.{AreBroken, AreJudged, AreRead}
 use Rattle.site_audit.specs.Legal.{IsBrokenAt, IsFirstIllegal, IsIllegalLog, IsLegalLog}
 use Rattle.site_audit.specs.declared.auditing.Place.{Place}
 

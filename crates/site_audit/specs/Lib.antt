@@ -1,4 +1,4 @@
 pub mod Legal
 pub mod Faults
 pub mod Verdicts
-pub mod Judged
+pub mod inside

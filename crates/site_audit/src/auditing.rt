@@ -11,7 +11,7 @@ ghost use Rattle.fp_site.specs.Site.{ReadsNothing};
 ghost use Rattle.log_groups.specs.Images.{BeginsFor, as_front, in_format};
 ghost use Rattle.log_groups.specs.Kept.{IsSound};
 ghost use Rattle.log_groups.specs.Reads.{HasGroup, ReadsOnlyLog};
-ghost use Rattle.site_audit.specs.Judged.{AreBroken, AreRead, ComesTo, GoesOnTo, IsOneRead};
+ghost use Rattle.site_audit.specs.inside.Judged.{AreBroken, AreRead, ComesTo, GoesOnTo, IsOneRead};
 ghost use Rattle.site_audit.specs.Legal.{IsBrokenAt, IsIllegalLog, IsLegalLog};
 ghost use Rattle.site_audit.specs.Verdicts.{SendsVerdict, legal_text};
 ghost use Rattle.site_audit.specs.declared.fault.AuditFault.TheVariants as faults;

@@ -10,7 +10,7 @@ use Rattle.fp_model.specs.declared.definitions.MsdbDef.{MsdbDef}
 use Rattle.fp_show.specs.DbText.{each_text, msdb_head, msdb_line, msdb_text}
 use Rattle.fp_show.proofs.Pairs.{opened}
 use Rattle.fp_site.specs.Disk.{Disk}
-use Rattle.site_texts.specs.Sent.{IsTold}
+use Rattle.site_texts.specs.inside.Sent.{IsTold}
 use Rattle.site_texts.proofs.Told.{told_none}
 
 no_some : {X : Type 0} (x : X) → None ≡ Some x → ⊥

@@ -10,7 +10,7 @@ use Rattle.fp_restart.proofs.Fits.{entries-more}
 use Rattle.log_groups.proofs.LogImages.{groups_more}
 use Rattle.fp_show.specs.GroupText.{group_text}
 use Rattle.fp_site.specs.Disk.{Disk, IsLawful, Stays}
-use Rattle.site_texts.specs.Groups.{AreAllSent, AreSent, AreSentToDamage, IsOneSent, SendsFrom, SendsOne}
+use Rattle.site_texts.specs.inside.Groups.{AreAllSent, AreSent, AreSentToDamage, IsOneSent, SendsFrom, SendsOne}
 use Rattle.site_texts.specs.Sent.{HasSent, HasSentPart}
 use Rattle.site_texts.specs.Texts.{groups_shown, log_shown}
 use Rattle.site_texts.proofs.Told.{part_on, part_whole, sent_none, sent_on, sent_then_stays}

@@ -4,7 +4,8 @@ use Rattle.std.proofs.lemmas.List.{append-nil, append_assoc}
 use Rattle.fp_site.specs.Disk.{Disk, Elapses, IsLawful, Sends, Snapshot, Stays}
 use Rattle.fp_site.proofs.Runs.{elapses_none, elapses_on, elapses_weaker, stays_now}
 use Rattle.fp_site.proofs.Sendings.{all_after, part_after, part_wider, sent_after, sent_wider, take_whole}
-use Rattle.site_texts.specs.Sent.{HasSent, HasSentPart, IsTold}
+use Rattle.site_texts.specs.Sent.{HasSent, HasSentPart}
+use Rattle.site_texts.specs.inside.Sent.{IsTold}
 
 -- what was left before the first byte is sent
 sends_nothing : (d : Disk) (text : List ℕ) (s : Snapshot) → d.may_leave s → Sends d text s

@@ -5,7 +5,7 @@ use Rattle.fp_model.specs.LogText.{Front, first_gate}
 use Rattle.log_groups.specs.Images.{BeginsFor}
 use Rattle.fp_model.specs.Groups.{HoldsGroups, IsDamaged}
 use Rattle.fp_site.specs.Disk.{Disk, IsLawful, Stays}
-use Rattle.site_texts.specs.Groups.{AreAllSent, AreSentToDamage, SendsFrom}
+use Rattle.site_texts.specs.inside.Groups.{AreAllSent, AreSentToDamage, SendsFrom}
 use Rattle.site_texts.specs.Texts.{IsLogSent, IsSentToDamage, SendsGroups, log_shown}
 use Rattle.site_texts.proofs.Told.{part_whole, sent_stays, stays_then_part}
 

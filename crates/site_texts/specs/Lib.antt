@@ -1,3 +1,3 @@
 pub mod Sent
 pub mod Texts
-pub mod Groups
+pub mod inside

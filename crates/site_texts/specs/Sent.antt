@@ -15,12 +15,6 @@ pub record HasSentPart (old new : Disk) (text : List ℕ) : Type 0 where
   pub contents : new.contents ≡ old.contents
   pub crash : Elapses old new (Sends old text)
 
--- Of a text some was sent, some is held back now, and the rest is still to come.
-pub record IsTold (old new : Disk) (text held rest : List ℕ) : Type 0 where
-  pub done : List ℕ
-  pub all : text ≡ done ++ (held ++ rest)
-  pub sent : HasSent old new done
-
 -- A crash leaves what it might have left before, but the log as a sync might have left it, and a first part of the text
 -- sent.
 pub record SyncsAndSends (old : Disk) (text : List ℕ) (s : Snapshot) : Type 0 where

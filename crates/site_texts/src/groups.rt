@@ -5,7 +5,7 @@ ghost use Rattle.log_groups.specs.Images.{BeginsFor, as_front};
 ghost use Rattle.log_groups.specs.Reads.{HasGroup, ReadsOnlyLog};
 ghost use Rattle.fp_model.specs.Groups.{Groups, IsDamaged, Reads};
 ghost use Rattle.fp_model.specs.declared.log.Entry.{Entry as EntryOf};
-ghost use Rattle.site_texts.specs.Groups.{AreAllSent, AreSentToDamage, IsOneSent, SendsFrom, SendsOne};
+ghost use Rattle.site_texts.specs.inside.Groups.{AreAllSent, AreSentToDamage, IsOneSent, SendsFrom, SendsOne};
 ghost use Rattle.site_texts.specs.Sent.{GoesOn};
 ghost use Rattle.site_texts.specs.Texts.{IsLogSent, IsSentToDamage, ReadsOnce, SendsGroups};
 ghost use Rattle.fp_site.specs.Disk.{Stays};

@@ -2,7 +2,8 @@
 ghost use Rattle.fp_site.specs.Disk.{Disk};
 ghost use Rattle.fp_site.specs.Site.{ReadsNothing};
 ghost use Rattle.fp_lists.specs.Faults.{Counts};
-ghost use Rattle.site_texts.specs.Sent.{GoesOn, HasSent, HasSentPart, IsTold};
+ghost use Rattle.site_texts.specs.Sent.{GoesOn, HasSent, HasSentPart};
+ghost use Rattle.site_texts.specs.inside.Sent.{IsTold};
 ghost use Rattle.std.specs.Prelude.{◌≡◌, ◌≤◌, ◌++◌, ℕ, [], OnOk};
 
 use fp_model::Bytes;

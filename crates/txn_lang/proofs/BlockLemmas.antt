@@ -14,7 +14,7 @@ use Rattle.txn_lang.specs.declared.standing.Opening.{Opening}
 use Rattle.txn_lang.specs.declared.standing.Opening.TheVariants as opening
 use Rattle.txn_lang.specs.declared.standing.Frame.{Frame}
 use Rattle.txn_lang.specs.Blocks.{Open, outermost, unclosed, else_in, AreStatements, none, one, if_end, if_else_end, repeat_end, AreScripts, no_script, script}
-use Rattle.txn_lang.specs.Building.{IsBlock, IsOpening, open_of, kind_of, is_choice, turned, statement_by, opening_line, IsFirst, IsOpened, Covers, HasShape, finished}
+use Rattle.txn_lang.specs.inside.Building.{IsBlock, IsOpening, open_of, kind_of, is_choice, turned, statement_by, opening_line, IsFirst, IsOpened, Covers, HasShape, finished}
 
 -- ---- statements and more statements
 

@@ -29,7 +29,7 @@ use Rattle.txn_tokens.specs.Lookups.{are_known, db_of, get_ssas, isrt_ssas, isrt
 use Rattle.txn_lang.specs.Statements.{keyword_at, before_fields, from_fields, tran_line, set_rest, set_line, if_line, repeat_line, reply_line, rolb_line, get_line, fld_line, isrt_line, repl_line, dlet_line, line_behind}
 use Rattle.txn_lang.specs.Blocks.{Choice, Loop, Context, begun, within_script, opened, with_open, in_loop, else_in, end_in, stands}
 use Rattle.txn_lang.specs.Grammar.{is_ascii, is_skipped, statement_in, line_in}
-use Rattle.txn_lang.specs.Building.{IsCount, Follows, context_behind, or_same, can_stand, said_in}
+use Rattle.txn_lang.specs.inside.Building.{IsCount, Follows, context_behind, or_same, can_stand, said_in}
 
 -- ---- what a reading gives has a property
 

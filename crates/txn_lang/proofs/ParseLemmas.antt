@@ -8,7 +8,8 @@ use Rattle.txn_lang.specs.declared.line.Line.{Line}
 use Rattle.txn_lang.specs.declared.standing.Builder.{Builder}
 use Rattle.txn_lang.specs.Blocks.{AreScripts, no_script, script}
 use Rattle.txn_lang.specs.Grammar.{IsWritten, HasFault, is_open}
-use Rattle.txn_lang.specs.Building.{Refuses, ReadsText, Finishes, IsLeftOpen, context_of}
+use Rattle.txn_lang.specs.Building.{Refuses}
+use Rattle.txn_lang.specs.inside.Building.{ReadsText, Finishes, IsLeftOpen, context_of}
 
 -- each script has a line
 pub scripts_few : {said : List Line} {scripts : List Script} → AreScripts said scripts → length scripts ≤ length said

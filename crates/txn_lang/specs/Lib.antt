@@ -4,3 +4,4 @@ pub mod Grammar
 pub mod Building
 pub mod Numbers
 pub mod Suiting
+pub mod inside

@@ -4,8 +4,9 @@ ghost use Rattle.fp_model.specs.Asking.{statement_cost, cost};
 ghost use Rattle.txn_lang.specs.declared.line.Line.{Line};
 ghost use Rattle.txn_lang.specs.declared.line.Line.TheVariants as line;
 ghost use Rattle.txn_lang.specs.Blocks as blocks;
-ghost use Rattle.txn_lang.specs.Building as building;
-ghost use Rattle.txn_lang.specs.Building.{IsBlock, IsBuilt, Follows, Adds, context_of, context_behind, statement_by};
+ghost use Rattle.txn_lang.specs.Building.{Refuses};
+ghost use Rattle.txn_lang.specs.inside.Building as building;
+ghost use Rattle.txn_lang.specs.inside.Building.{IsBlock, IsBuilt, Follows, Adds, context_of, context_behind, statement_by};
 
 use crate::fault::ScriptFault;
 use crate::line::Line;
@@ -354,7 +355,7 @@ impl Builder {
     pub(crate) fn finish(self) -> Result<(List<Script>, List<u64>), ScriptFault>
         requires { IsBlock self.block }
         ensures ok { IfOk result (λ x. building.Finishes self x.0 x.1) }
-        ensures err { IfErr result (λ e. building.Refuses e (building.IsLeftOpen self e)) }
+        ensures err { IfErr result (λ e. Refuses e (building.IsLeftOpen self e)) }
     {
         match self.unclosed() {
             Some(number) => Err(ScriptFault::Syntax(number)),

@@ -7,7 +7,8 @@ ghost use Rattle.txn_tokens.specs.Readings.{Fails};
 ghost use Rattle.txn_tokens.specs.Lookups.{HaveByteNumbers};
 ghost use Rattle.txn_lang.specs.Grammar as grammar;
 ghost use Rattle.txn_lang.specs.Grammar.{line_in, text_in};
-ghost use Rattle.txn_lang.specs.Building.{IsBlock, AreFrames, ReadsLine, ReadsText, Refuses, context_of};
+ghost use Rattle.txn_lang.specs.Building.{Refuses};
+ghost use Rattle.txn_lang.specs.inside.Building.{IsBlock, AreFrames, ReadsLine, ReadsText, context_of};
 
 use crate::fault::ScriptFault;
 use crate::standing::Builder;

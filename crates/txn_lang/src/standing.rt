@@ -10,8 +10,8 @@ ghost use Rattle.txn_tokens.specs.Lookups.{HaveByteNumbers};
 ghost use Rattle.txn_tokens.specs.declared.fault.LineFault.TheVariants.{UnknownName};
 ghost use Rattle.txn_lang.specs.Blocks as blocks;
 ghost use Rattle.txn_lang.specs.Blocks.{stands, unclosed};
-ghost use Rattle.txn_lang.specs.Building as building;
-ghost use Rattle.txn_lang.specs.Building.{context_of};
+ghost use Rattle.txn_lang.specs.inside.Building as building;
+ghost use Rattle.txn_lang.specs.inside.Building.{context_of};
 
 use crate::line::{Keyword, Line};
 use crate::statements::{keyword_at, line_behind};
@@ -196,7 +196,7 @@ impl Builder {
     }
 
     /// What a line with a statement says, with the word that it begins with.
-    #[tactic(auto, unfolding(crate::specs::Building::said_in))]
+    #[tactic(auto, unfolding(crate::specs::inside::Building::said_in))]
     pub(crate) fn statement_in(
         &self,
         alloc: Global,

@@ -20,13 +20,14 @@ use Rattle.txn_machine.specs.declared.program.Program.{Program}
 use Rattle.txn_machine.specs.declared.program.Wait.{Wait}
 use Rattle.txn_machine.specs.declared.program.Next.{Next}
 use Rattle.txn_machine.specs.declared.program.Next.TheVariants as next
-use Rattle.txn_machine.specs.Alike.{AreAlike}
-use Rattle.txn_machine.specs.Doing.{way_of, block_of}
+use Rattle.txn_machine.specs.inside.Alike.{AreAlike}
+use Rattle.txn_machine.specs.inside.Doing.{way_of, block_of}
 use Rattle.txn_machine.specs.Knowing.{env_of, lesson_of}
 use Rattle.txn_machine.specs.Places.{block_at, block_in, choice_in, loop_in, inner, from_place, beyond, around, end_from, way_from}
-use Rattle.txn_machine.specs.Running.{end_of, end_at_call, StandsAtCall, IsAsked}
-use Rattle.txn_machine.specs.Stepping.{ComesAlike, Costs, IsDeed}
-use Rattle.txn_machine.specs.Work.{statement_work, work_from, work_beyond, work_around, work}
+use Rattle.txn_machine.specs.Running.{end_of, end_at_call, IsAsked}
+use Rattle.txn_machine.specs.inside.Running.{StandsAtCall}
+use Rattle.txn_machine.specs.inside.Stepping.{ComesAlike, Costs, IsDeed}
+use Rattle.txn_machine.specs.inside.Work.{statement_work, work_from, work_beyond, work_around, work}
 use Rattle.txn_machine.proofs.AlikeLemmas.{same_end}
 use Rattle.txn_machine.proofs.EndLemmas.{drop_here}
 use Rattle.txn_machine.proofs.PlaceLemmas.{around_push, around_end, block_push}

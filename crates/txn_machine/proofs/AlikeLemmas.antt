@@ -23,7 +23,7 @@ use Rattle.fp_model.specs.Texts.{same_text, trimmed}
 use Rattle.fp_model.specs.Values.{◌>>=◌, Layout, layout_of, empty_segment, short_enough}
 use Rattle.fp_model.specs.Operands.{Env, Setting, ShownSegment, new_type, learned, with_setting, setting_of, shown_on, shown_letter, shown_field, text_named, text_of, set_text, chosen, joined_texts, reply_text, key_text, ssa_of, ssas_of, fsas_given, filled, get_call, fld_call, isrt_call, repl_call}
 use Rattle.fp_model.specs.Asking.{Way, Goes, Leaves, Ends, Ask, Asks, Replies, Rolls, or_rolls, goes_on, in_order, loops_on, times, called, run, run_step, ended}
-use Rattle.txn_machine.specs.Alike.{AreAlike, AreTwins, LeadAlike, both_go, both_leave, both_end}
+use Rattle.txn_machine.specs.inside.Alike.{AreAlike, AreTwins, LeadAlike, both_go, both_leave, both_end}
 use Rattle.txn_machine.specs.declared.place.Place.{Place}
 use Rattle.txn_machine.specs.declared.place.Frame.{Frame}
 use Rattle.txn_machine.specs.declared.place.Frame.TheVariants as frame

@@ -8,7 +8,7 @@ use Rattle.fp_model.specs.declared.scripts.SsaText.{SsaText}
 use Rattle.fp_model.specs.Fsas.{field_of, with_field}
 use Rattle.fp_model.specs.Operands.{Env, filled, new_type, text_of}
 use Rattle.fp_model.specs.Values.{◌>>=◌, value_bytes}
-use Rattle.txn_machine.specs.Filling.{with_value}
+use Rattle.txn_machine.specs.inside.Filling.{with_value}
 use Rattle.txn_values.proofs.FieldLemmas.{rest_at}
 
 -- one value, and those behind it

@@ -28,12 +28,12 @@ use Rattle.txn_machine.specs.declared.place.Frame.{Frame}
 use Rattle.txn_machine.specs.declared.place.Frame.TheVariants as frame
 use Rattle.txn_machine.specs.declared.program.Next.{Next}
 use Rattle.txn_machine.specs.declared.program.Next.TheVariants as next
-use Rattle.txn_machine.specs.Doing.{Does, Spells}
+use Rattle.txn_machine.specs.inside.Doing.{Does, Spells}
 use Rattle.txn_machine.specs.Fit.{AreShown, IsShownSegment}
 use Rattle.txn_machine.specs.Knowing.{env_of}
 use Rattle.txn_machine.specs.Places.{block_at, block_in, choice_in, inner, loop_in}
 use Rattle.txn_machine.specs.Running.{IsFitNext}
-use Rattle.txn_machine.specs.Stepping.{IsEnd, IsGivenBy}
+use Rattle.txn_machine.specs.inside.Stepping.{IsEnd, IsGivenBy}
 use Rattle.txn_machine.proofs.FitLemmas.{made, mapped, ssas_fit, key_fits, layout_is, empty_length, filled_length, given_length, def_at, all_at, shown_at}
 use Rattle.txn_machine.proofs.StatementLemmas.{run_out}
 

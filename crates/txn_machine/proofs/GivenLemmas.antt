@@ -11,7 +11,7 @@ use Rattle.fp_model.specs.Fsas.{Fsa, IsFsa, fsa_text, list_text}
 use Rattle.fp_model.specs.Operands.{Env, fsas_given, text_of}
 use Rattle.fp_model.specs.Values.{◌>>=◌}
 use Rattle.fld_calls.proofs.WriteLemmas.{text-step}
-use Rattle.txn_machine.specs.Filling.{fsa_given, with_fsa_text}
+use Rattle.txn_machine.specs.inside.Filling.{fsa_given, with_fsa_text}
 use Rattle.txn_machine.proofs.FitLemmas.{given_length}
 
 -- one in front of the others, where there are any

@@ -11,9 +11,11 @@ use Rattle.fp_model.specs.FitCalls.{FitsAnswerOf, shown_behind}
 use Rattle.fp_model.specs.Calls.{database_of, target_of}
 use Rattle.txn_machine.specs.declared.known.Lesson.{Lesson}
 use Rattle.txn_machine.specs.declared.known.Lesson.TheVariants as lesson
-use Rattle.txn_machine.specs.Knowing.{lesson_of, showing, taught}
-use Rattle.txn_machine.specs.Alike.{AreTwins}
-use Rattle.txn_machine.specs.Fit.{FitsLesson, IsShownSegment}
+use Rattle.txn_machine.specs.Knowing.{lesson_of}
+use Rattle.txn_machine.specs.inside.Knowing.{showing, taught}
+use Rattle.txn_machine.specs.inside.Alike.{AreTwins}
+use Rattle.txn_machine.specs.Fit.{IsShownSegment}
+use Rattle.txn_machine.specs.inside.Fit.{FitsLesson}
 
 -- a get that finds teaches a segment
 pub taught_found : (l : Lesson) (db : ℕ) (answer : Answer) (a b : Env) → l ≡ lesson.Segment db

@@ -10,8 +10,9 @@ use Rattle.fp_model.specs.Asking.{Ask, ask}
 use Rattle.txn_machine.specs.declared.program.Program.{Program}
 use Rattle.txn_machine.specs.declared.program.Wait.{Wait}
 use Rattle.txn_machine.specs.declared.program.Next.{Next}
-use Rattle.txn_machine.specs.Running.{IsAt, IsAtCall, StandsAtCall, IsAsked, end_of}
-use Rattle.txn_machine.specs.Stepping.{ComesAlike}
+use Rattle.txn_machine.specs.Running.{IsAt, IsAtCall, IsAsked, end_of}
+use Rattle.txn_machine.specs.inside.Running.{StandsAtCall}
+use Rattle.txn_machine.specs.inside.Stepping.{ComesAlike}
 
 pub alike_then : (defs : Defs) (statements : List Statement) (message : Message) (a b c : Program)
     → ComesAlike defs statements message a b

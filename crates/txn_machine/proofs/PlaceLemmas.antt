@@ -14,8 +14,9 @@ use Rattle.txn_machine.specs.declared.place.Frame.TheVariants as frame
 use Rattle.txn_machine.specs.declared.known.Known.{Known}
 use Rattle.txn_machine.specs.declared.program.Program.{Program}
 use Rattle.txn_machine.specs.declared.program.Wait.{Wait}
-use Rattle.txn_machine.specs.Alike.{AreTwins}
-use Rattle.txn_machine.specs.Knowing.{env_of, lesson_of, taught}
+use Rattle.txn_machine.specs.inside.Alike.{AreTwins}
+use Rattle.txn_machine.specs.Knowing.{env_of, lesson_of}
+use Rattle.txn_machine.specs.inside.Knowing.{taught}
 use Rattle.txn_machine.specs.Places.{inner, block_at, from_place, beyond, around, way_from, end_from}
 use Rattle.txn_machine.specs.declared.place.Place.{Place}
 use Rattle.txn_machine.specs.Running.{IsAt, IsAtCall, end_of, end_at_call}

@@ -12,7 +12,7 @@ use Rattle.fp_model.specs.Operands.{Env, Setting, with_setting, setting_of}
 use Rattle.txn_lang.specs.Numbers.{name_cmp}
 use Rattle.txn_machine.specs.declared.known.Known.{Known}
 use Rattle.txn_machine.specs.Knowing.{setting_in, env_of}
-use Rattle.txn_machine.specs.Alike.{AreAlike}
+use Rattle.txn_machine.specs.inside.Alike.{AreAlike}
 
 eq_sym : (a b : ℕ) → (a == b) ≡ (b == a)
 eq_sym a b = both (a == b) (b == a) refl refl

@@ -8,8 +8,9 @@ use Rattle.txn_machine.specs.declared.shown.Shown.{Shown}
 use Rattle.txn_machine.specs.declared.shown.Gets.{Gets}
 use Rattle.fp_model.specs.declared.definitions.Defs.{Defs}
 use Rattle.txn_machine.specs.Fit.{AreShown, IsShownSegment}
-use Rattle.txn_machine.specs.Alike.{ShowAlike}
-use Rattle.txn_machine.specs.Knowing.{in_place, segment_on, segments_from}
+use Rattle.txn_machine.specs.inside.Alike.{ShowAlike}
+use Rattle.txn_machine.specs.Knowing.{segment_on, segments_from}
+use Rattle.txn_machine.specs.inside.Knowing.{in_place}
 
 -- an empty place more
 pub segments_push : (db : ℕ) (places : List (Option Shown))

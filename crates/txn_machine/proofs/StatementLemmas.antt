@@ -18,7 +18,7 @@ use Rattle.txn_machine.specs.declared.doing.Deed.TheVariants as deed
 use Rattle.txn_machine.specs.declared.known.Known.{Known}
 use Rattle.txn_values.specs.declared.stop.Stop.{Stop}
 use Rattle.txn_values.specs.declared.stop.Stop.TheVariants as stop
-use Rattle.txn_machine.specs.Doing.{Tries, Does, block_of, deed_of_loop, way_of}
+use Rattle.txn_machine.specs.inside.Doing.{Tries, Does, block_of, deed_of_loop, way_of}
 use Rattle.txn_values.specs.Giving.{Stops}
 use Rattle.txn_machine.specs.Knowing.{env_of}
 use Rattle.txn_machine.specs.Places.{choice_in, loop_in}

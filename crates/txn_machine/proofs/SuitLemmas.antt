@@ -33,11 +33,11 @@ use Rattle.txn_machine.specs.declared.doing.Deed.TheVariants as deed
 use Rattle.txn_machine.specs.declared.known.Known.{Known}
 use Rattle.txn_machine.specs.declared.program.Next.{Next}
 use Rattle.txn_machine.specs.declared.program.Next.TheVariants as next
-use Rattle.txn_machine.specs.Doing.{Does, Spells}
+use Rattle.txn_machine.specs.inside.Doing.{Does, Spells}
 use Rattle.txn_machine.specs.Fit.{AreShown, IsShownSegment, type_shown}
 use Rattle.txn_machine.specs.Knowing.{env_of}
 use Rattle.txn_machine.specs.Running.{IsSuitedNext}
-use Rattle.txn_machine.specs.Stepping.{IsEnd}
+use Rattle.txn_machine.specs.inside.Stepping.{IsEnd}
 use Rattle.txn_machine.proofs.FitLemmas.{empty_length, filled_length, fitted_length, given_length, made, mapped, shown_at}
 use Rattle.txn_machine.proofs.FitStatements.{asked_of, fit_fld, fit_get, fit_isrt, fit_out, fit_repl, reply_asks, set_asks}
 use Rattle.txn_machine.proofs.StatementLemmas.{run_out}

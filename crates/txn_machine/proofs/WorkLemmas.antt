@@ -6,14 +6,14 @@ use Rattle.std.proofs.lemmas.List.Sums.{sum_by-cons}
 use Rattle.fp_model.specs.declared.scripts.Statement.{out-Statement, map-Statement}
 use Rattle.fp_model.specs.declared.scripts.Statement.TheOpen.{Statement-F, Set, If, Repeat, Break, Reply, Roll, Get, Fld, Isrt, Repl, Dlet}
 use Rattle.fp_model.specs.declared.scripts.Statement.TheFolds.{fold_out-Statement}
-use Rattle.txn_machine.specs.Work.{work_step}
+use Rattle.txn_machine.specs.inside.Work.{work_step}
 use Rattle.txn_machine.proofs.EndLemmas.{drop_here}
 use Rattle.fp_model.specs.declared.scripts.Statement.{Statement}
 use Rattle.txn_machine.specs.declared.place.Place.{Place}
 use Rattle.txn_machine.specs.declared.place.Frame.{Frame}
 use Rattle.txn_machine.specs.declared.place.Frame.TheVariants as frame
 use Rattle.txn_machine.specs.Places.{inner, block_at}
-use Rattle.txn_machine.specs.Work.{statement_work, work_from, work_beyond, work_around, work}
+use Rattle.txn_machine.specs.inside.Work.{statement_work, work_from, work_beyond, work_around, work}
 use Rattle.txn_machine.proofs.PlaceLemmas.{block_push}
 
 pub work_push : (fs : List Frame) (f : Frame) (block : List Statement)

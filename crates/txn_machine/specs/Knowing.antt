@@ -1,10 +1,9 @@
 -- What a program knows, as the definitions see it, and what an answer adds to it.
-use Rattle.std.specs.Prelude.{ℕ, ◌+◌, ◌<◌, List, [], ◌∷◌, length, map, Option, Some, None, IfSome, if◌then◌else◌}
+use Rattle.std.specs.Prelude.{ℕ, ◌+◌, ◌<◌, List, [], ◌∷◌, length, map, Option, Some, None, IfSome}
 use Rattle.fp_model.specs.declared.name.Name.{Name}
 use Rattle.fp_model.specs.declared.calls.Answer.{Answer}
 use Rattle.fp_model.specs.declared.calls.Call.{Call}
 use Rattle.fp_model.specs.declared.calls.Call.TheVariants as call
-use Rattle.fp_model.specs.Texts.{same_text, trimmed}
 use Rattle.fp_model.specs.Operands.{Env, Setting, ShownSegment}
 use Rattle.txn_machine.specs.declared.known.Known.{Known}
 use Rattle.txn_machine.specs.declared.shown.Shown.{Shown}
@@ -25,11 +24,6 @@ abbrev pub segments_from : ℕ → List (Option Shown) → List ShownSegment
 segments_from db [] = []
 segments_from db (None ∷ others) = segments_from (db + 1) others
 segments_from db (Some shown ∷ others) = segment_on db shown ∷ segments_from (db + 1) others
-
--- what there is in a place, where there is a place
-abbrev pub in_place : Option (Option Shown) → Option Shown
-in_place None = None
-in_place (Some place) = place
 
 -- the newest segment first
 abbrev pub segments_of : Option Gets → List ShownSegment
@@ -64,16 +58,3 @@ lesson_of (call.Fld db key fsas) = lesson.Letters
 lesson_of (call.Isrt db ssas bytes) = lesson.Nothing
 lesson_of (call.Repl db bytes) = lesson.Nothing
 lesson_of (call.Dlet db) = lesson.Nothing
-
--- with a segment shown
-abbrev pub showing : ShownSegment → Env → Env
-showing shown env = record env { shown = shown ∷ env.shown }
-
--- what it adds
-abbrev pub taught : Lesson → Answer → Env → Env
-taught (lesson.Segment db) answer env =
-    if same_text (trimmed answer.status) []
-    then showing (record { db = db; type_number = answer.segment; bytes = answer.bytes }) env
-    else env
-taught lesson.Letters answer env = record env { letters = answer.letters }
-taught lesson.Nothing answer env = env

@@ -1,9 +1,5 @@
-pub mod Alike
-pub mod Doing
-pub mod Filling
 pub mod Fit
 pub mod Knowing
 pub mod Places
 pub mod Running
-pub mod Stepping
-pub mod Work
+pub mod inside

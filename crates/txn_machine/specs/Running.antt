@@ -51,14 +51,6 @@ pub record IsAtCall (defs : Defs) (statements : List Statement) (message : Messa
   pub comes : (more : List Answer) → ask defs statements message (answers ++ more) ≡ end_at_call defs statements message
       program asked wait.behind more
 
--- where a program stands, its script comes to what follows behind this call
-pub record StandsAtCall (defs : Defs) (statements : List Statement) (message : Message) (program : Program)
-    (wait : Wait) : Type 0 where
-  pub asked : Call
-  pub lesson : wait.lesson ≡ lesson_of asked
-  pub comes : (more : List Answer) → end_of defs statements message program more ≡ end_at_call defs statements message
-      program asked wait.behind more
-
 -- The program, given these answers, is where the script is: whatever is answered further, both come to the same.
 pub record IsAt (defs : Defs) (statements : List Statement) (message : Message) (answers : List Answer)
     (program : Program) : Type 0 where

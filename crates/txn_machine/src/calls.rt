@@ -8,8 +8,9 @@ ghost use Rattle.fp_model.specs.Fsas.{Fsa as Argument, IsFsa, list_text};
 ghost use Rattle.fp_model.specs.Operands.{filled, fsas_given, fld_call, get_call, isrt_call, new_type, repl_call, shown_on, ssa_of, ssas_of};
 ghost use Rattle.fp_model.specs.Values.{layout_of};
 ghost use Rattle.fld_calls.specs.Forms.{lent_form_of};
-ghost use Rattle.txn_values.specs.Giving.{Gives, PutsIn, Stops};
-ghost use Rattle.txn_machine.specs.Filling.{fsa_given, with_fsa_text, with_value};
+ghost use Rattle.txn_values.specs.Giving.{Gives, Stops};
+ghost use Rattle.txn_values.specs.inside.Giving.{PutsIn};
+ghost use Rattle.txn_machine.specs.inside.Filling.{fsa_given, with_fsa_text, with_value};
 ghost use Rattle.txn_machine.specs.Knowing.{env_of, segment_on};
 
 use crate::known::Known;

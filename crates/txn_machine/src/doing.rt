@@ -1,8 +1,8 @@
 //! What a statement does, by what the program knows.
 ghost use Rattle.std.specs.Prelude.{◌≡◌, IfOk};
 ghost use Rattle.fp_model.specs.declared.scripts.Statement.{out-Statement};
-ghost use Rattle.txn_machine.specs.Doing.{Does, IsCall, Spells, Tries, deed_of_loop};
-ghost use Rattle.txn_machine.specs.Stepping.{Costs};
+ghost use Rattle.txn_machine.specs.inside.Doing.{Does, IsCall, Spells, Tries, deed_of_loop};
+ghost use Rattle.txn_machine.specs.inside.Stepping.{Costs};
 
 use crate::known::Known;
 use fp_model::{Bytes, Call, Defs, Message, Name, Statement};

@@ -4,9 +4,11 @@ ghost use Rattle.fp_model.specs.declared.calls.Answer.{Answer};
 ghost use Rattle.fp_model.specs.declared.definitions.Defs.{Defs};
 ghost use Rattle.fp_model.specs.Operands.{at_top, setting_of, with_setting};
 ghost use Rattle.fp_model.specs.Texts.{same_text, trimmed};
-ghost use Rattle.txn_machine.specs.Alike.{AreAlike, AreTwins};
-ghost use Rattle.txn_machine.specs.Fit.{AreShown, FitsLesson, IsShownSegment};
-ghost use Rattle.txn_machine.specs.Knowing.{HasPlace, env_of, segment_on, segments_of, showing, taught};
+ghost use Rattle.txn_machine.specs.inside.Alike.{AreAlike, AreTwins};
+ghost use Rattle.txn_machine.specs.Fit.{AreShown, IsShownSegment};
+ghost use Rattle.txn_machine.specs.inside.Fit.{FitsLesson};
+ghost use Rattle.txn_machine.specs.Knowing.{HasPlace, env_of, segment_on, segments_of};
+ghost use Rattle.txn_machine.specs.inside.Knowing.{showing, taught};
 
 use crate::shown::{Gets, Shown};
 use fp_model::{Answer, Bytes, Name};

@@ -7,7 +7,7 @@ ghost use Rattle.fp_model.specs.Operands.{Env};
 ghost use Rattle.fp_model.specs.Asking.{Goes, Leaves, Replies, ended};
 ghost use Rattle.txn_machine.specs.Places as places;
 ghost use Rattle.txn_machine.specs.Places.{around, choice_in, end_from, inner, loop_in, way_from};
-ghost use Rattle.txn_machine.specs.Work.{work, work_around};
+ghost use Rattle.txn_machine.specs.inside.Work.{work, work_around};
 
 use fp_model::{List, Statement};
 use std::alloc::AllocError;

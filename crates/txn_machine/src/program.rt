@@ -13,13 +13,14 @@ ghost use Rattle.fp_model.specs.FitCalls.{FitsAnswerOf, are_fit, shown_behind};
 ghost use Rattle.fp_model.specs.Calls.{database_of, target_of};
 ghost use Rattle.fp_model.specs.WellFormed.{IsDedbDef, IsMsdbDef};
 ghost use Rattle.txn_lang.specs.Suiting.{all_suit};
-ghost use Rattle.txn_machine.specs.Running.{Awaits, IsAsked, IsAt, IsFit, IsFitNext, IsSuitedNext, IsWaiting, StandsAtCall, WaitsFor, end_of, types_shown};
-ghost use Rattle.txn_machine.specs.Alike.{AreAlike};
+ghost use Rattle.txn_machine.specs.Running.{Awaits, IsAsked, IsAt, IsFit, IsFitNext, IsSuitedNext, IsWaiting, WaitsFor, end_of, types_shown};
+ghost use Rattle.txn_machine.specs.inside.Running.{StandsAtCall};
+ghost use Rattle.txn_machine.specs.inside.Alike.{AreAlike};
 ghost use Rattle.txn_machine.specs.Fit.{AreShown, type_shown};
 ghost use Rattle.txn_machine.specs.Places.{around, end_from};
 ghost use Rattle.txn_machine.specs.Knowing.{env_of, lesson_of, segments_of};
-ghost use Rattle.txn_machine.specs.Stepping.{ComesAlike, IsDeed, IsGivenBy};
-ghost use Rattle.txn_machine.specs.Work.{work, work_around};
+ghost use Rattle.txn_machine.specs.inside.Stepping.{ComesAlike, IsDeed, IsGivenBy};
+ghost use Rattle.txn_machine.specs.inside.Work.{work, work_around};
 
 use crate::doing::Deed;
 use crate::known::{Known, Lesson};

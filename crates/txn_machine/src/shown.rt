@@ -1,8 +1,9 @@
 //! The segments that a program was shown.
 ghost use Rattle.std.specs.Prelude.{◌≡◌, ◌==◌, ◌∷◌, [], List, MatchOption, None, OnOk, Some, find, slice_get};
 ghost use Rattle.fp_model.specs.declared.definitions.Defs.{Defs};
-ghost use Rattle.txn_machine.specs.Knowing.{HasPlace, in_place, segment_on, segments_of};
-ghost use Rattle.txn_machine.specs.Alike.{ShowAlike};
+ghost use Rattle.txn_machine.specs.Knowing.{HasPlace, segment_on, segments_of};
+ghost use Rattle.txn_machine.specs.inside.Knowing.{in_place};
+ghost use Rattle.txn_machine.specs.inside.Alike.{ShowAlike};
 ghost use Rattle.txn_machine.specs.Fit.{AreShown, IsShownSegment};
 
 use fp_model::{Bytes, List};

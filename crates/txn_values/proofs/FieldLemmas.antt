@@ -6,7 +6,7 @@ use Rattle.fp_model.specs.Fsas.{with_field}
 use Rattle.std.specs.Prelude.{⊤, Result, Ok, Err, take}
 use Rattle.txn_values.specs.declared.stop.Stop.{Stop}
 use Rattle.txn_values.specs.declared.stop.Stop.TheVariants as stop
-use Rattle.txn_values.specs.Giving.{PutsIn}
+use Rattle.txn_values.specs.inside.Giving.{PutsIn}
 use Rattle.txn_values.specs.Fields.{field_filled}
 
 -- a list in front of one that there may be

@@ -1,5 +1,5 @@
 -- What a function gives that works out a value.
-use Rattle.std.specs.Prelude.{◌≡◌, ℕ, List, ⊤, Option, Some, None, Result, Ok, Err}
+use Rattle.std.specs.Prelude.{◌≡◌, ⊤, Option, Some, None, Result, Ok, Err}
 use Rattle.txn_values.specs.declared.stop.Stop.{Stop}
 use Rattle.txn_values.specs.declared.stop.Stop.TheVariants as stop
 
@@ -16,8 +16,3 @@ GivesAs view (Err e) o = Stops e o
 abbrev pub Gives : {X : Type 0} → Result X Stop → Option X → Type 0
 Gives (Ok x) o = o ≡ Some x
 Gives (Err e) o = Stops e o
-
--- what stands now in a place that a value was put into
-abbrev pub PutsIn : Result ⊤ Stop → List ℕ → Option (List ℕ) → Type 0
-PutsIn (Ok done) now o = o ≡ Some now
-PutsIn (Err e) now o = Stops e o

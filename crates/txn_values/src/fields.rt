@@ -6,7 +6,8 @@ ghost use Rattle.fp_model.specs.Numbers.{bytes_of, number};
 ghost use Rattle.fp_model.specs.Values.{empty_field, empty_segment, fitted, fitted_key, layout_of, value_bytes, value_text};
 ghost use Rattle.fp_model.specs.Texts.{padded};
 ghost use Rattle.txn_values.specs.Fields.{field_filled};
-ghost use Rattle.txn_values.specs.Giving.{Gives, GivesAs, PutsIn, Stops};
+ghost use Rattle.txn_values.specs.Giving.{Gives, GivesAs, Stops};
+ghost use Rattle.txn_values.specs.inside.Giving.{PutsIn};
 ghost use Rattle.txn_values.specs.Lending.{bytes_in};
 
 use crate::lent::OperandText;

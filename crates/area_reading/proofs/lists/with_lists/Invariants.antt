@@ -2,7 +2,7 @@ use Rattle.std.proofs.Common.{◌≡◌, take, drop}
 use Rattle.std.specs.List.{AllZip}
 use Rattle.ci_space.specs.Calls.{GoesOn}
 use Rattle.area_states.specs.States.{IsReadAs}
-use Rattle.area_reading.specs.Damage.{AreEndsOf}
+use Rattle.area_reading.specs.inside.Damage.{AreEndsOf}
 use Rattle.area_reading.proofs.lists.with_lists.Given as goal
 
 -- the roots so far have their lists

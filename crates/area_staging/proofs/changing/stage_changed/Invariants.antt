@@ -4,7 +4,8 @@ use Rattle.std.specs.List.{AllByRecursion}
 use Rattle.std.specs.Ordering.{nat_cmp}
 use Rattle.std.specs.BTreeMap.{btree_map_len, get}
 use Rattle.fp_model.specs.ItemTargets.{is_ascending}
-use Rattle.area_staging.specs.Changing.{AllBefore, IsFitFor, IsLeastOf, MakeChanges, Shows, Stages, StagesItems}
+use Rattle.area_staging.specs.Changing.{IsFitFor, IsLeastOf, MakeChanges, Shows, Stages, StagesItems}
+use Rattle.area_staging.specs.inside.Changing.{AllBefore}
 use Rattle.area_staging.specs.Flags.{AreFlagged}
 use Rattle.area_staging.specs.Items.{HasFlag, is_imaged}
 use Rattle.ci_pool.specs.Held.{SameAtHand}

@@ -1,7 +1,7 @@
 use Rattle.std.proofs.Common.{◌≡◌, ◌∙◌, length, sym, ap, subst}
 use Rattle.std.specs.Prelude.{Some}
 use Rattle.ci_pool.specs.Held.{Held, staged_at}
-use Rattle.area_staging.specs.Changing.{IsItemFor}
+use Rattle.area_staging.specs.inside.Changing.{IsItemFor}
 use Rattle.area_staging.specs.Items.{is_imaged}
 use Rattle.area_staging.proofs.AtHand.{hand_of, hand_then}
 use Rattle.area_staging.proofs.Steps.{other_staged}

@@ -5,7 +5,7 @@ use Rattle.root_anchor.proofs.Exits.{same_fault}
 use Rattle.seq_dependents.specs.declared.fault.SeqFault.TheVariants.{Damaged}
 use Rattle.seq_dependents.specs.Puts.{IsTooMany}
 use Rattle.area_states.specs.Changes.{ends_of}
-use Rattle.area_states.specs.Keys.{IsFound}
+use Rattle.area_states.specs.inside.Keys.{IsFound}
 use Rattle.area_states.specs.Places.{part_of}
 use Rattle.area_states.proofs.Changing.{state_stays}
 use Rattle.area_states.proofs.Numbering.{chain_stands, numbered_here}

@@ -6,7 +6,7 @@ use Rattle.root_anchor.specs.Stored.{are_storable, is_storable}
 use Rattle.area_states.specs.Changes.{kept_root}
 use Rattle.fp_model.specs.Order.{root_key}
 use Rattle.fp_model.specs.State.{ascend}
-use Rattle.area_states.specs.Keys.{HasSeqsAt, IsKeptAs, IsOwnOf}
+use Rattle.area_states.specs.inside.Keys.{HasSeqsAt, IsKeptAs, IsOwnOf}
 use Rattle.std.proofs.lemmas.Bool.{cases_lt}
 use Rattle.std.proofs.lemmas.Option.{slice_get_within}
 use Rattle.area_states.proofs.Again.{got_root, has_front, has_last, one_longer}

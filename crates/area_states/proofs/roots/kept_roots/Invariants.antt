@@ -6,7 +6,7 @@ use Rattle.area_states.specs.Changes.{kept_root}
 use Rattle.fp_model.specs.Order.{root_key}
 use Rattle.fp_model.specs.State.{ascend}
 use Rattle.fp_model.specs.declared.database.Root.{Root}
-use Rattle.area_states.specs.Keys.{HasSeqsAt, IsKeptAs, IsOwnOf}
+use Rattle.area_states.specs.inside.Keys.{HasSeqsAt, IsKeptAs, IsOwnOf}
 use Rattle.area_states.proofs.roots.kept_roots.Given as goal
 
 -- those before are kept, and may be stored

@@ -7,7 +7,7 @@ use Rattle.fp_model.specs.Order.{root_key}
 use Rattle.fp_model.specs.State.{ascend}
 use Rattle.root_anchor.proofs.OneChain.{one_chain}
 use Rattle.seq_dependents.specs.Control.{begin_of}
-use Rattle.area_states.specs.Keys.{IsKeptAs, IsOwnOf}
+use Rattle.area_states.specs.inside.Keys.{IsKeptAs, IsOwnOf}
 use Rattle.area_states.specs.Places.{part_of}
 use Rattle.area_states.specs.States.{IsReadAs}
 use Rattle.area_states.proofs.Alone.{alone_ok, differ_so}

@@ -1,7 +1,7 @@
 use Rattle.std.proofs.Common.{◌≡◌, List, true}
 use Rattle.fp_model.specs.declared.definitions.SegDef.{SegDef}
 use Rattle.area_tests.specs.Types.{AreFamilyTypes}
-use Rattle.root_anchor.specs.Stored.{row_has_form}
+use Rattle.root_anchor.specs.inside.Stored.{row_has_form}
 use Rattle.area_tests.proofs.families.leaves.Given as goal
 
 abbrev pub invariant-loop-key : goal.invariant-loop-key

@@ -1,7 +1,7 @@
 use Rattle.std.proofs.Common.{◌≡◌, ◌++◌, ◌∷◌, ◌∙◌, ap, sym, map, subst, true}
 use Rattle.fp_model.specs.Lasts.{Last, with_last}
 use Rattle.fp_model.specs.State.{ascend}
-use Rattle.checkpoint_format.specs.Terminals.{as_last}
+use Rattle.checkpoint_format.specs.inside.Terminals.{as_last}
 use Rattle.checkpoint_format.proofs.Behind.{last_behind, regrouped}
 use Rattle.checkpoint_format.proofs.terminals.by_name.Goals as goal
 

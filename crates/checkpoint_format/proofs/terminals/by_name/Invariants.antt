@@ -1,5 +1,5 @@
 use Rattle.std.proofs.Common.{◌≡◌, ◌++◌, map}
-use Rattle.checkpoint_format.specs.Terminals.{as_last}
+use Rattle.checkpoint_format.specs.inside.Terminals.{as_last}
 use Rattle.checkpoint_format.proofs.terminals.by_name.Given as goal
 
 -- those that are put, and those that are left, are all

@@ -3,7 +3,7 @@ use Rattle.std.proofs.lemmas.Result.{err_from_is_err_and}
 use Rattle.log_format.specs.Reading.{many_at}
 use Rattle.log_format.proofs.Loop.{goes_on, ends, is_done}
 use Rattle.checkpoint_format.specs.Reading.{last_at}
-use Rattle.checkpoint_format.specs.Terminals.{as_last}
+use Rattle.checkpoint_format.specs.inside.Terminals.{as_last}
 use Rattle.checkpoint_format.proofs.Order.{map_last}
 use Rattle.checkpoint_format.proofs.terminals.many_of.Goals as goal
 

@@ -2,7 +2,7 @@ use Rattle.std.proofs.Common.{◌≡◌, ◌-◌, map}
 use Rattle.log_format.specs.Reading.{many_at}
 use Rattle.log_format.proofs.Loop.{with_front}
 use Rattle.checkpoint_format.specs.Reading.{last_at}
-use Rattle.checkpoint_format.specs.Terminals.{as_last}
+use Rattle.checkpoint_format.specs.inside.Terminals.{as_last}
 use Rattle.checkpoint_format.proofs.terminals.many_of.Given as goal
 
 -- the terminals so far, and those that are still read

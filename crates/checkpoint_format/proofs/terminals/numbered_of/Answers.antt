@@ -1,7 +1,7 @@
 use Rattle.std.proofs.Common.{◌∙◌, ap, sym, map}
 use Rattle.fp_model.specs.Lasts.{Last}
 use Rattle.fp_model.specs.State.{ascend}
-use Rattle.checkpoint_format.specs.Terminals.{as_last}
+use Rattle.checkpoint_format.specs.inside.Terminals.{as_last}
 use Rattle.checkpoint_format.proofs.Behind.{map_both, none_numbered}
 use Rattle.checkpoint_format.proofs.terminals.numbered_of.Goals as goal
 

@@ -1,7 +1,8 @@
 use Rattle.std.proofs.Common.{refl, arith, ◌≡◌, ℕ, ◌+◌, ◌-◌, ◌<◌, ◌≤◌, List, [], ◌∷◌, ◌++◌, length, take, Bool, true, false, not, ◌&&◌, ◌||◌, ◌==◌, get_or, ap, sym, subst, ◌∙◌, length-append}
 use Rattle.std.specs.List.{IsDistinct}
 use Rattle.std.proofs.lemmas.List.{length-set, length-take}
-use Rattle.ci_locks.specs.Graph.{Along, is_in, leads, set_at}
+use Rattle.ci_locks.specs.Graph.{is_in}
+use Rattle.ci_locks.specs.inside.Graph.{Along, leads, set_at}
 use Rattle.ci_locks.specs.Sets.{has}
 use Rattle.ci_locks.proofs.Members.{is_member, member_is, take_last, take_put}
 use Rattle.ci_locks.proofs.Walks.{AreNoLater, Searched, back, begins, closes, end_within, few, fewer, none, none_before, onward, onward_before, still_before}

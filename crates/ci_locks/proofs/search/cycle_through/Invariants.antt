@@ -1,5 +1,5 @@
 use Rattle.std.proofs.Common.{◌≡◌, ◌≤◌, ◌+◌, ◌*◌, length, take}
-use Rattle.ci_locks.specs.Graph.{leads}
+use Rattle.ci_locks.specs.inside.Graph.{leads}
 use Rattle.ci_locks.specs.Sets.{has}
 use Rattle.ci_locks.proofs.Walks.{AreNoLater, Searched, count_unmet}
 use Rattle.ci_locks.proofs.search.cycle_through.Given as goal

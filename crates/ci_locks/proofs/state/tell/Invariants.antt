@@ -1,6 +1,6 @@
 use Rattle.std.proofs.Common.{◌≡◌, ℕ, length, suc, ◌<◌, ◌≤◌}
 use Rattle.std.specs.Prelude.{slice_get}
-use Rattle.ci_locks.specs.Regions.{AreTold}
+use Rattle.ci_locks.specs.inside.Regions.{AreTold}
 use Rattle.ci_locks.proofs.state.tell.Given as goal
 
 abbrev pub invariant-loop-place : goal.invariant-loop-place

@@ -1,7 +1,7 @@
 use Rattle.std.proofs.Common.{refl, arith}
 use Rattle.std.proofs.lemmas.Result.{err_from_is_err_and}
 use Rattle.ci_overflow.specs.Faults.{FitsEmpty}
-use Rattle.ci_overflow.specs.Rooms.{TakesOne}
+use Rattle.ci_overflow.specs.inside.Rooms.{TakesOne}
 use Rattle.ci_overflow.proofs.Going.{same_fault}
 use Rattle.ci_overflow.proofs.Tries.{option_some, option_none}
 use Rattle.ci_overflow.proofs.Orders.{orders-standing, orders-next, if_ok-on}

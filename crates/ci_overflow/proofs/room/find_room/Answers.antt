@@ -1,4 +1,4 @@
-use Rattle.ci_overflow.specs.Rooms.{TakesOne}
+use Rattle.ci_overflow.specs.inside.Rooms.{TakesOne}
 use Rattle.ci_overflow.proofs.FaultLemmas.{in-order-sound}
 use Rattle.ci_overflow.proofs.Tries.{if_ok-map}
 use Rattle.ci_overflow.proofs.Orders.{if_ok-on}

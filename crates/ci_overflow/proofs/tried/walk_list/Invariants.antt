@@ -2,7 +2,7 @@ use Rattle.std.proofs.Common.{◌≡◌, ◌+◌, ◌-◌, ◌<◌, ◌≤◌}
 use Rattle.ci_space.specs.Calls.{GoesOn}
 use Rattle.ci_overflow.specs.Places.{first_base}
 use Rattle.ci_overflow.specs.Lists.{bytes_at, link_of}
-use Rattle.ci_overflow.specs.Rooms.{IsOnChain}
+use Rattle.ci_overflow.specs.inside.Rooms.{IsOnChain}
 use Rattle.ci_overflow.specs.Known.{IsKnown}
 use Rattle.ci_overflow.proofs.Circles.{IsWalked}
 use Rattle.ci_overflow.proofs.Knowns.{HasPassed}

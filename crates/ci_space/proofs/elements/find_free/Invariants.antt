@@ -1,5 +1,5 @@
 use Rattle.std.proofs.Common.{◌-◌, length}
-use Rattle.ci_space.specs.Walk.{WalksPast}
+use Rattle.ci_space.specs.inside.Walk.{WalksPast}
 use Rattle.ci_space.proofs.elements.find_free.Given as goal
 
 abbrev pub invariant-loop-at : goal.invariant-loop-at

@@ -1,5 +1,5 @@
 use Rattle.std.proofs.Common.{◌-◌}
-use Rattle.ci_space.specs.Walk.{WalksTo}
+use Rattle.ci_space.specs.inside.Walk.{WalksTo}
 use Rattle.ci_space.proofs.elements.start_of_free.Given as goal
 
 abbrev pub invariant-loop-place : goal.invariant-loop-place

@@ -1,7 +1,7 @@
 use Rattle.std.proofs.Common.{◌≡◌, ◌∙◌, ◌+◌, ◌<◌, ◌∷◌, ap, sym, subst, rules, arith, map, string_bytes, drop, false, List, String, Global, length, get_or}
 use Rattle.std.proofs.lemmas.Bool.{false≢true}
 use Rattle.std.proofs.lemmas.List.{drop_all, drop_more}
-use Rattle.command_words.specs.Words.{AreWords}
+use Rattle.command_words.specs.inside.Words.{AreWords}
 use Rattle.command_words.proofs.words.are_words.Goals as goal
 
 pub loop-word-preserved : goal.loop-word-preserved

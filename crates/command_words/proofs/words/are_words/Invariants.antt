@@ -1,5 +1,5 @@
 use Rattle.std.proofs.Common.{map, string_bytes, drop}
-use Rattle.command_words.specs.Words.{AreWords}
+use Rattle.command_words.specs.inside.Words.{AreWords}
 use Rattle.command_words.proofs.words.are_words.Given as goal
 
 -- all of them are words just where those from this one on are

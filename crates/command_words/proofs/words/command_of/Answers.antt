@@ -1,8 +1,9 @@
 use Rattle.std.proofs.Common.{◌≡◌, ◌∙◌, ◌≤◌, ap, sym, subst, rules, arith, inl, inr, map, string_bytes, Global, List, [], ℕ, length, None, Option, Some, option_map}
 use Rattle.std.proofs.lemmas.List.{length-map}
 use Rattle.clap.specs.Words.{App, HasKind, Kinds, Row, Text, fault_of, is_simple, is_simple_and_free}
-use Rattle.command_words.specs.Apps.{program_app}
-use Rattle.command_words.specs.Words.{AreWords, command_named, command_of}
+use Rattle.command_words.specs.inside.Apps.{program_app}
+use Rattle.command_words.specs.Words.{command_named, command_of}
+use Rattle.command_words.specs.inside.Words.{AreWords}
 use Rattle.command_words.proofs.Exact.{IsExact, exact, same_inside}
 use Rattle.command_words.proofs.Forms.{name_in, name_of_rows, simple, simple_and_free}
 use Rattle.command_words.proofs.words.command_of.Goals as goal

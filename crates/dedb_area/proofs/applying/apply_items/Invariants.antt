@@ -4,7 +4,8 @@ use Rattle.std.specs.List.{AllByRecursion}
 use Rattle.fp_model.specs.declared.log.Item.TheVariants.{Range}
 use Rattle.ci_pool.specs.Held.{pending_at, IsClean}
 use Rattle.area_states.specs.declared.place.Place.{Place}
-use Rattle.dedb_area.specs.Applying.{with_items_at, IsApplied, EndsInTime, IsFitImage, LiesWithin}
+use Rattle.dedb_area.specs.Applying.{with_items_at, IsApplied, IsFitImage, LiesWithin}
+use Rattle.dedb_area.specs.inside.Applying.{EndsInTime}
 use Rattle.dedb_area.specs.Standing.{IsFitPool, IsUnstaged}
 use Rattle.dedb_area.proofs.applying.apply_items.Given as goal
 

@@ -11,7 +11,8 @@ use Rattle.area_staging.specs.Looking.{LooksAt}
 use Rattle.area_staging.specs.Staging.{kept_itself, staged_area}
 use Rattle.held_intervals.specs.Holding.{held_or, listed}
 use Rattle.area_states.specs.Changes.{OneChanges}
-use Rattle.dedb_area.specs.Committing.{IsChangedTo, OneChanged, committed}
+use Rattle.dedb_area.specs.Committing.{committed}
+use Rattle.dedb_area.specs.inside.Committing.{IsChangedTo, OneChanged}
 use Rattle.dedb_area.proofs.AnchorLemmas.{kept_of_equals}
 use Rattle.dedb_area.proofs.ChangedLemmas.{changed_list, fresh_list, given_all, given_then, ok_then, put_within, told_same}
 use Rattle.dedb_area.proofs.Ones.{one_changed}

@@ -7,13 +7,14 @@ use Rattle.area_states.specs.Databases.{state_of}
 use Rattle.area_states.specs.Places.{counted_by, place_at}
 use Rattle.std.specs.List.{AllByRecursion}
 use Rattle.fp_model.specs.ItemTargets.{is_ascending}
-use Rattle.area_staging.specs.Changing.{AllBefore}
+use Rattle.area_staging.specs.inside.Changing.{AllBefore}
 use Rattle.area_staging.specs.Flags.{AreFlagged}
 use Rattle.area_staging.specs.Items.{is_imaged}
 use Rattle.area_staging.proofs.AtHand.{hand_then, still_at_hand}
 use Rattle.area_staging.proofs.Staged.{reads_then}
 use Rattle.std.proofs.lemmas.Bool.{cases_Bool}
-use Rattle.dedb_area.specs.Committing.{AreStagedUpTo, IsFitItem, IsLeast, committed, is_concerned}
+use Rattle.dedb_area.specs.Committing.{IsFitItem, IsLeast, committed, is_concerned}
+use Rattle.dedb_area.specs.inside.Committing.{AreStagedUpTo}
 use Rattle.dedb_area.proofs.Ones.{not_yet, one_added, one_in_all, one_passed, two_concerned}
 use Rattle.dedb_area.proofs.AnchorLemmas.{at_number, got, state_here, within_areas}
 use Rattle.dedb_area.proofs.CommitLaws.{counts_in_time}

@@ -7,11 +7,12 @@ use Rattle.fp_site.specs.Site.{ReadsNothing}
 use Rattle.area_redo.specs.Redo.{AreaBytes}
 use Rattle.ci_pool.specs.Held.{SameAtHand}
 use Rattle.area_states.specs.Databases.{AreFor}
-use Rattle.area_staging.specs.Changing.{AllBefore}
+use Rattle.area_staging.specs.inside.Changing.{AllBefore}
 use Rattle.area_staging.specs.Flags.{AreFlagged}
 use Rattle.area_staging.specs.Items.{is_imaged}
-use Rattle.dedb_area.specs.Anchors.{ShowsAreas}
-use Rattle.dedb_area.specs.Committing.{AreStagedUpTo, ConcernedAreAtHand, FitAreas, IsFitItem, IsLeast, OneSegmentChanges, StagesAll}
+use Rattle.dedb_area.specs.inside.Anchors.{ShowsAreas}
+use Rattle.dedb_area.specs.Committing.{ConcernedAreAtHand, IsFitItem, IsLeast}
+use Rattle.dedb_area.specs.inside.Committing.{AreStagedUpTo, FitAreas, OneSegmentChanges, StagesAll}
 use Rattle.dedb_area.specs.Standing.{IsUnstaged}
 use Rattle.dedb_area.proofs.Ones.{HasOneItem}
 use Rattle.dedb_area.proofs.committing.stage_all.Given as goal

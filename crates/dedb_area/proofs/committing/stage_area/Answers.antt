@@ -16,7 +16,8 @@ use Rattle.area_staging.proofs.Data.{there}
 use Rattle.area_staging.proofs.Looks.{looks_then, same_staged}
 use Rattle.area_staging.proofs.Staged.{reads_nothing, reads_then}
 use Rattle.area_staging.proofs.Stages.{stages_looked, stages_then}
-use Rattle.dedb_area.specs.Committing.{MakesArea, committed}
+use Rattle.dedb_area.specs.Committing.{committed}
+use Rattle.dedb_area.specs.inside.Committing.{MakesArea}
 use Rattle.dedb_area.proofs.AnchorLemmas.{begin_first, by_ok, some_counted, still_shown}
 use Rattle.dedb_area.proofs.CommitLemmas.{makes_area}
 use Rattle.dedb_area.proofs.Ones.{at_most_one, just_one, ok_three}

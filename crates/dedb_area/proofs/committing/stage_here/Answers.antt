@@ -1,7 +1,8 @@
 use Rattle.std.proofs.Common.{sym, subst, ◌∙◌}
 use Rattle.dedb_area.proofs.Ones.{not_both}
 use Rattle.area_staging.specs.Items.{is_imaged}
-use Rattle.dedb_area.specs.Committing.{MakesArea, committed}
+use Rattle.dedb_area.specs.Committing.{committed}
+use Rattle.dedb_area.specs.inside.Committing.{MakesArea}
 use Rattle.dedb_area.proofs.CommitLemmas.{unconcerned_makes, unconcerned_room}
 use Rattle.dedb_area.proofs.committing.stage_here.Goals as goal
 

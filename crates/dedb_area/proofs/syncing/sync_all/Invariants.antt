@@ -3,7 +3,7 @@ use Rattle.std.specs.Prelude.{slice_get, Some}
 use Rattle.fp_site.specs.Disk.{IsDurable}
 use Rattle.fp_site.specs.Site.{ReadsNothing}
 use Rattle.fp_model.specs.State.{first_area_set}
-use Rattle.dedb_area.specs.Keeping.{SyncsAreas}
+use Rattle.dedb_area.specs.inside.Keeping.{SyncsAreas}
 use Rattle.dedb_area.proofs.syncing.sync_all.Given as goal
 
 abbrev pub invariant-loop-number : goal.invariant-loop-number

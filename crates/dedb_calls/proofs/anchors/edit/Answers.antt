@@ -3,7 +3,8 @@ use Rattle.fp_model.specs.Order.{edited}
 use Rattle.dli_tree.specs.Changes.{edit_of}
 use Rattle.dli_tree.specs.InOrder.{are_in_order}
 use Rattle.dli_tree.specs.Paths.{steps_of}
-use Rattle.dedb_calls.specs.Anchors.{IsEdited, is_anchor_of}
+use Rattle.dedb_calls.specs.Anchors.{is_anchor_of}
+use Rattle.dedb_calls.specs.inside.Anchors.{IsEdited}
 use Rattle.dedb_calls.specs.declared.anchors.HeldAnchor.{HeldAnchor}
 use Rattle.dedb_calls.proofs.AnchorLemmas.{edited_there, found_there, none_there, not_held, on_err, set_itself, some_is}
 use Rattle.dedb_calls.proofs.anchors.edit.Goals as goal

@@ -1,6 +1,6 @@
 use Rattle.std.proofs.Common.{◌≡◌, map, take}
 use Rattle.dli_tree.specs.Paths.{step_of}
-use Rattle.dedb_calls.specs.Arguments.{named_step}
+use Rattle.dedb_calls.specs.inside.Arguments.{named_step}
 use Rattle.dedb_calls.proofs.arguments.insert_path.Given as goal
 
 -- a step for each argument so far

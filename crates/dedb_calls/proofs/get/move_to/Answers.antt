@@ -1,7 +1,8 @@
 use Rattle.std.proofs.Common.{◌∙◌, Option, Some, sym, ap}
 use Rattle.fp_model.specs.Order.{Place}
 use Rattle.fp_model.specs.Workspace.{DedbPosition}
-use Rattle.dedb_calls.specs.Progress.{position_in, with_position_at}
+use Rattle.dedb_calls.specs.Progress.{position_in}
+use Rattle.dedb_calls.specs.inside.Progress.{with_position_at}
 use Rattle.dedb_calls.proofs.get.move_to.Goals as goal
 
 pub returns-then-leaves_parent-clause-work : goal.returns-then-leaves_parent-clause-work

@@ -2,7 +2,7 @@ use Rattle.std.proofs.Common.{◌≡◌, ◌∙◌, [], Some, sym, subst}
 use Rattle.fp_model.specs.DedbCalls.{anchor_at, anchors_searched}
 use Rattle.fp_model.specs.Exits.{anchor_of}
 use Rattle.fp_model.specs.declared.calls.Get.{Get}
-use Rattle.dedb_calls.specs.Searches.{numbers_in}
+use Rattle.dedb_calls.specs.inside.Searches.{numbers_in}
 use Rattle.dedb_calls.proofs.GetLemmas.{next_none, next_one}
 use Rattle.dedb_calls.proofs.get.named_stretch.Goals as goal
 

@@ -2,7 +2,7 @@ use Rattle.std.proofs.Common.{◌≡◌, ◌∙◌, ◌∷◌, ◌-◌, [], None
 use Rattle.fp_model.specs.DedbCalls.{anchors_searched}
 use Rattle.fp_model.specs.State.{anchor_count, numbers_up}
 use Rattle.fp_model.specs.declared.calls.Get.{Get}
-use Rattle.dedb_calls.specs.Searches.{numbers_in}
+use Rattle.dedb_calls.specs.inside.Searches.{numbers_in}
 use Rattle.dedb_calls.proofs.get.open_stretch.Goals as goal
 
 pub returns-in-NextInParent-clause-anchors : goal.returns-in-NextInParent-clause-anchors

@@ -1,7 +1,7 @@
 use Rattle.std.proofs.Common.{◌≡◌, ◌∙◌, Option, List, sym, subst, ℕ}
 use Rattle.fp_model.specs.DedbCalls.{anchors_searched}
 use Rattle.fp_model.specs.Exits.{anchor_of}
-use Rattle.dedb_calls.specs.Searches.{numbers_in}
+use Rattle.dedb_calls.specs.inside.Searches.{numbers_in}
 use Rattle.dedb_calls.proofs.SeenLemmas.{option_is, option_none}
 use Rattle.dedb_calls.proofs.get.stretch.Goals as goal
 

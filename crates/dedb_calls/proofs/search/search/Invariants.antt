@@ -1,5 +1,5 @@
 use Rattle.std.proofs.Common.{◌≡◌, ◌-◌}
-use Rattle.dedb_calls.specs.Progress.{roots_in}
+use Rattle.dedb_calls.specs.inside.Progress.{roots_in}
 use Rattle.fp_model.specs.Answers.{serves}
 use Rattle.fp_model.specs.DedbCalls.{first_found, first_unlocked}
 use Rattle.fp_model.specs.Order.{first_admitted}

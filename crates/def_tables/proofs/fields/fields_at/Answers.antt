@@ -1,6 +1,6 @@
 use Rattle.std.proofs.Common.{sym, subst}
 use Rattle.std.specs.List.{AllByRecursion}
-use Rattle.def_tables.specs.Fields.{IsShort}
+use Rattle.def_tables.specs.inside.Fields.{IsShort}
 use Rattle.def_tables.proofs.Steps.{some_from_ok}
 use Rattle.def_tables.proofs.FieldLemmas.{triples-short}
 use Rattle.def_tables.proofs.fields.fields_at.Goals as goal

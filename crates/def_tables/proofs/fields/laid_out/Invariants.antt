@@ -1,6 +1,7 @@
 use Rattle.std.proofs.Common.{◌≡◌, ◌≤◌, ◌*◌, ◌++◌, drop}
 use Rattle.std.specs.List.{AllByRecursion}
-use Rattle.def_tables.specs.Fields.{IsShort, laid_out}
+use Rattle.def_tables.specs.Fields.{laid_out}
+use Rattle.def_tables.specs.inside.Fields.{IsShort}
 use Rattle.def_tables.proofs.fields.laid_out.Given as goal
 
 abbrev pub invariant-loop-triple : goal.invariant-loop-triple

@@ -7,7 +7,7 @@ use Rattle.fp_model.specs.FitCalls.{FitsAnswerOf}
 use Rattle.fp_model.specs.MsdbCalls.{msdb_looks, msdb_reply}
 use Rattle.ci_locks.specs.Table.{standing}
 use Rattle.dli_calls.specs.Readiness.{IfAnswer}
-use Rattle.dli_calls.specs.Replies.{ShowsFound, segments_in}
+use Rattle.dli_calls.specs.inside.Replies.{ShowsFound, segments_in}
 use Rattle.dli_calls.specs.Targets.{FitsWork}
 use Rattle.dli_calls.proofs.AnswerLemmas.{fits_answer, if_answer, looks, names_it, needs, replies, target}
 use Rattle.dli_calls.proofs.BeginLemmas.{if_ok}

@@ -1,5 +1,5 @@
 use Rattle.std.proofs.Common.{◌≡◌, drop}
-use Rattle.dli_tree.specs.Aims.{agrees}
+use Rattle.dli_tree.specs.inside.Aims.{agrees}
 use Rattle.dli_tree.proofs.aim.agrees.Given as goal
 
 -- what is left decides

@@ -1,5 +1,5 @@
 use Rattle.std.proofs.Common.{◌≡◌, drop}
-use Rattle.dli_tree.specs.Aims.{can_stand}
+use Rattle.dli_tree.specs.inside.Aims.{can_stand}
 use Rattle.dli_tree.proofs.aim.can_stand.Given as goal
 
 -- what is left decides

@@ -3,7 +3,8 @@ use Rattle.fp_model.specs.declared.database.Node.{Node, out-Node, roll-Node}
 use Rattle.fp_model.specs.Order.{node_key}
 use Rattle.std.proofs.lemmas.List.{take_rest}
 use Rattle.dli_tree.specs.declared.path.Step.{Step as StepOf}
-use Rattle.dli_tree.specs.Changes.{edit_of, twins_edited}
+use Rattle.dli_tree.specs.Changes.{edit_of}
+use Rattle.dli_tree.specs.inside.Changes.{twins_edited}
 use Rattle.dli_tree.specs.Paths.{step_of, steps_of}
 use Rattle.dli_tree.specs.declared.place.Place.TheVariants.{Lacks, Stands}
 use Rattle.dli_tree.proofs.Editing.{change_lacks, change_stands, changed_below, on_err_with, on_ok_with, placed_in, row_end, row_goes, row_shape, rows_at, rows_none, rows_past, same_children, same_set, twin_there}

@@ -2,7 +2,7 @@ use Rattle.std.proofs.Common.{◌∙◌, ap, sym}
 use Rattle.std.specs.Prelude.{find, option_map}
 use Rattle.std.specs.Option.{option_or}
 use Rattle.fp_model.specs.Order.{child_types, rows_in_order}
-use Rattle.dli_tree.specs.Aims.{aim_of, looks_for}
+use Rattle.dli_tree.specs.inside.Aims.{aim_of, looks_for}
 use Rattle.dli_tree.specs.Paths.{occurrence_of}
 use Rattle.dli_tree.proofs.Roots.{root_past, rows_answer, seq_answer, shaped}
 use Rattle.dli_tree.proofs.Rows.{ok_with, orders}

@@ -1,7 +1,7 @@
 use Rattle.std.proofs.Common.{◌∙◌, ap}
 use Rattle.std.specs.Prelude.{option_map}
 use Rattle.fp_model.specs.Order.{direct, key_in, one_down}
-use Rattle.dli_tree.specs.Aims.{aim_of}
+use Rattle.dli_tree.specs.inside.Aims.{aim_of}
 use Rattle.dli_tree.proofs.Roots.{root_none, root_some}
 use Rattle.dli_tree.proofs.Rows.{ok_with}
 use Rattle.dli_tree.proofs.first.in_root.Goals as goal

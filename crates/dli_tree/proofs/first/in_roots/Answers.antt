@@ -1,7 +1,7 @@
 use Rattle.std.proofs.Common.{◌≡◌, ◌∙◌, ◌<◌, ap, sym, get_or, length, arith}
 use Rattle.std.specs.Prelude.{option_map}
 use Rattle.fp_model.specs.Order.{root_order}
-use Rattle.dli_tree.specs.Aims.{aim_of, looks_for}
+use Rattle.dli_tree.specs.inside.Aims.{aim_of, looks_for}
 use Rattle.dli_tree.specs.Paths.{occurrence_of}
 use Rattle.dli_tree.proofs.Roots.{root_left, root_shape, roots_ascend}
 use Rattle.dli_tree.proofs.Rows.{found_here, found_next, none_from, skipped}

@@ -1,7 +1,7 @@
 use Rattle.std.proofs.Common.{◌≡◌, true}
 use Rattle.std.specs.Prelude.{find}
 use Rattle.fp_model.specs.Order.{root_order, sequence}
-use Rattle.dli_tree.specs.Aims.{aim_of, looks_for}
+use Rattle.dli_tree.specs.inside.Aims.{aim_of, looks_for}
 use Rattle.dli_tree.specs.InOrder.{are_in_order}
 use Rattle.dli_tree.proofs.Rows.{found_from}
 use Rattle.dli_tree.proofs.first.in_roots.Given as goal

@@ -2,7 +2,7 @@ use Rattle.std.proofs.Common.{◌≡◌, ◌∙◌, ◌<◌, ap, sym, Some, get_
 use Rattle.std.specs.Prelude.{find}
 use Rattle.std.proofs.lemmas.List.{drop_all}
 use Rattle.fp_model.specs.Order.{dependent}
-use Rattle.dli_tree.specs.Aims.{aim_of, looks_for}
+use Rattle.dli_tree.specs.inside.Aims.{aim_of, looks_for}
 use Rattle.dli_tree.specs.Paths.{occurrence_of}
 use Rattle.dli_tree.proofs.Roots.{alone, one_none, one_some, seqs_are}
 use Rattle.dli_tree.proofs.Rows.{found_here, found_next, none_from, ok_with, skipped}

@@ -2,7 +2,7 @@ use Rattle.std.proofs.Common.{◌≡◌, ◌^◌, true}
 use Rattle.std.specs.Prelude.{find}
 use Rattle.fp_model.specs.Order.{sequentials}
 use Rattle.fp_model.specs.Shape.{are_newest_first}
-use Rattle.dli_tree.specs.Aims.{aim_of, looks_for}
+use Rattle.dli_tree.specs.inside.Aims.{aim_of, looks_for}
 use Rattle.dli_tree.proofs.Roots.{alone}
 use Rattle.dli_tree.proofs.Rows.{found_from}
 use Rattle.dli_tree.proofs.first.in_sequentials.Given as goal

@@ -2,7 +2,7 @@ use Rattle.std.proofs.Common.{ap, ◌∙◌, sym, get_or, drop, length, arith}
 use Rattle.std.specs.Prelude.{option_map}
 use Rattle.std.specs.Option.{option_copied}
 use Rattle.fp_model.specs.Order.{numbered}
-use Rattle.dli_tree.specs.Aims.{aim_of}
+use Rattle.dli_tree.specs.inside.Aims.{aim_of}
 use Rattle.dli_tree.specs.Paths.{steps_of}
 use Rattle.dli_tree.proofs.Reaching.{opened}
 use Rattle.dli_tree.proofs.Roots.{not_inside, some_first}

@@ -1,6 +1,6 @@
 use Rattle.std.proofs.Common.{◌∙◌}
 use Rattle.fp_model.specs.Order.{numbered}
-use Rattle.dli_tree.specs.Aims.{aim_of}
+use Rattle.dli_tree.specs.inside.Aims.{aim_of}
 use Rattle.dli_tree.proofs.Roots.{below_one}
 use Rattle.dli_tree.proofs.first.wants_dependent.Goals as goal
 

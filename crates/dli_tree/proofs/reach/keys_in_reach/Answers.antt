@@ -1,7 +1,7 @@
 use Rattle.std.proofs.Common.{ap}
 use Rattle.std.specs.Prelude.{option_map}
 use Rattle.std.specs.Option.{option_copied}
-use Rattle.dli_tree.specs.Aims.{aim_of}
+use Rattle.dli_tree.specs.inside.Aims.{aim_of}
 use Rattle.dli_tree.specs.Paths.{steps_of}
 use Rattle.dli_tree.proofs.reach.keys_in_reach.Goals as goal
 

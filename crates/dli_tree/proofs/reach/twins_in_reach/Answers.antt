@@ -1,7 +1,7 @@
 use Rattle.std.proofs.Common.{length, arith}
 use Rattle.fp_model.specs.Order.{node_key, root_key}
-use Rattle.dli_tree.specs.Aims.{aim_of}
-use Rattle.dli_tree.specs.Reaches.{IsLeft}
+use Rattle.dli_tree.specs.inside.Aims.{aim_of}
+use Rattle.dli_tree.specs.inside.Reaches.{IsLeft}
 use Rattle.dli_tree.proofs.Reaching.{before_below, before_one, behind_one, none_after}
 use Rattle.dli_tree.proofs.reach.twins_in_reach.Goals as goal
 

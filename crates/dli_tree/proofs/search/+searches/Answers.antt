@@ -3,7 +3,7 @@ use Rattle.std.specs.Prelude.{find, flat_map, option_map}
 use Rattle.std.proofs.lemmas.List.{drop_all}
 use Rattle.fp_model.specs.declared.database.Node.{Node}
 use Rattle.fp_model.specs.Order.{Occurrence, child_types, direct, is_child_of, key_in, node_key, node_order, one_down}
-use Rattle.dli_tree.specs.Aims.{aim_of, looks_for}
+use Rattle.dli_tree.specs.inside.Aims.{aim_of, looks_for}
 use Rattle.dli_tree.specs.Paths.{occurrence_of}
 use Rattle.dli_tree.proofs.Lines.{child_above}
 use Rattle.dli_tree.proofs.Rows.{IsLeftOf, all_below, is_left, row_answer, at_place, first_shape, found_from, found_here, found_next, kinds_end, kinds_from, kinds_next, kinds_other, no_kinds, no_rows, node_none, node_some, none_from, none_left, none_reached, ok_with, opened_list, row_ascends, row_found, row_next, rows_left, rows_shape, skipped, twin_shape}

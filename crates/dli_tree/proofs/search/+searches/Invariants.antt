@@ -2,7 +2,7 @@ use Rattle.std.proofs.Common.{◌≡◌, ◌+◌, ◌-◌, ◌*◌, ◌≤◌, �
 use Rattle.std.specs.Prelude.{find, flat_map}
 use Rattle.fp_model.specs.Order.{child_types, is_child_of, node_order, rows_in_order}
 use Rattle.fp_model.specs.Shape.{are_rows, is_row, seen_as}
-use Rattle.dli_tree.specs.Aims.{aim_of, looks_for}
+use Rattle.dli_tree.specs.inside.Aims.{aim_of, looks_for}
 use Rattle.dli_tree.proofs.Rows.{IsLeftOf, found_from, kinds_from, rows_left}
 use Rattle.dli_tree.proofs.search.+searches.Given as goal
 

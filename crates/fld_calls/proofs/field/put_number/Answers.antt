@@ -2,7 +2,7 @@ use Rattle.std.proofs.Common.{◌∙◌, sym}
 use Rattle.std.specs.Int.{w128}
 use Rattle.std.proofs.lemmas.Int.{to_z-of_z}
 use Rattle.fp_model.specs.Numbers.{bytes_of}
-use Rattle.fld_calls.specs.Refusals.{IsDone}
+use Rattle.fld_calls.specs.inside.Refusals.{IsDone}
 use Rattle.fld_calls.proofs.NumberSizes.{fits_sums}
 use Rattle.fld_calls.proofs.Letters.{done-letter, done-err, put-letter}
 use Rattle.fld_calls.proofs.field.put_number.Goals as goal

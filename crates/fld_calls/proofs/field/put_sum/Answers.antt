@@ -4,8 +4,8 @@ use Rattle.std.specs.Int.{w128}
 use Rattle.std.proofs.lemmas.Int.{to_z-of_z}
 use Rattle.fp_model.specs.Fsas.{summed}
 use Rattle.fp_model.specs.Numbers.{bytes_of}
-use Rattle.fld_calls.specs.Operations.{sum_byte}
-use Rattle.fld_calls.specs.Refusals.{IsDone}
+use Rattle.fld_calls.specs.inside.Operations.{sum_byte}
+use Rattle.fld_calls.specs.inside.Refusals.{IsDone}
 use Rattle.fld_calls.proofs.NumberSizes.{fits_sums}
 use Rattle.fld_calls.proofs.Letters.{done-letter, done-ok, done-err, sum-letter, sum-changed}
 use Rattle.fld_calls.proofs.field.put_sum.Goals as goal

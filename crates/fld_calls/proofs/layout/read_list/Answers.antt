@@ -1,7 +1,8 @@
 use Rattle.std.proofs.Common.{◌≡◌, ◌≢◌, ◌∙◌, ◌+◌, ◌<◌, true, false, if◌then◌else◌, length, ap, sym, arith}
 use Rattle.fp_model.specs.Fsas.{Fsa, Whole}
 use Rattle.fld_calls.specs.declared.arguments.Fsa.{Fsa as Argument}
-use Rattle.fld_calls.specs.Forms.{form_of, forms, is_last}
+use Rattle.fld_calls.specs.Forms.{form_of, forms}
+use Rattle.fld_calls.specs.inside.Forms.{is_last}
 use Rattle.fld_calls.proofs.ReadLemmas.{at-start, at-short, at-bad, at-last, at-more, forms-more, short-more}
 use Rattle.fld_calls.proofs.layout.read_list.Goals as goal
 

@@ -2,7 +2,7 @@ use Rattle.std.proofs.Common.{◌≡◌, ◌∙◌, ℕ, ◌+◌, ◌-◌, take,
 use borrow.Rule.Slice.PartMut.{post_of}
 use Rattle.std.proofs.lemmas.List.{drop-drop}
 use Rattle.fp_model.specs.Fsas.{field_bytes}
-use Rattle.fld_calls.specs.Operations.{byte_of}
+use Rattle.fld_calls.specs.inside.Operations.{byte_of}
 use Rattle.fld_calls.proofs.TryLemmas.{put-ok, put-err, window}
 use Rattle.fld_calls.proofs.trying.try_at.Goals as goal
 

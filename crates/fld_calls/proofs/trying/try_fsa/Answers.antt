@@ -1,8 +1,9 @@
 use Rattle.std.proofs.Common.{◌≡◌, ◌∙◌, sym, length}
 use Rattle.std.specs.Prelude.{OnOk}
 use Rattle.fp_model.specs.Fsas.{field_bytes, letter_on}
-use Rattle.fld_calls.specs.Refusals.{letter_in, segment_behind}
-use Rattle.fld_calls.specs.Forms.{lent_form_of, of_fields}
+use Rattle.fld_calls.specs.inside.Refusals.{letter_in, segment_behind}
+use Rattle.fld_calls.specs.Forms.{lent_form_of}
+use Rattle.fld_calls.specs.inside.Forms.{of_fields}
 use Rattle.fld_calls.proofs.TryLemmas.{found_within, known, its-letter, answered}
 use Rattle.fld_calls.proofs.trying.try_fsa.Goals as goal
 

@@ -3,7 +3,7 @@ use Rattle.std.proofs.lemmas.List.{take_more_set, drop-set-lt, take_all, drop_al
 use Rattle.fp_model.specs.Fsas.{Fsa, fsa_on, letter_of}
 use Rattle.fp_model.specs.WellFormed.{StandFrom}
 use Rattle.fld_calls.specs.declared.arguments.Fsa.{Fsa as Argument}
-use Rattle.fld_calls.specs.Refusals.{letter_in}
+use Rattle.fld_calls.specs.inside.Refusals.{letter_in}
 use Rattle.fld_calls.proofs.ListLemmas.{trying-step, trying-end, drop_got}
 use Rattle.fld_calls.proofs.trying.try_fsas.Goals as goal
 

@@ -3,7 +3,8 @@ use Rattle.std.specs.Prelude.{Option}
 use Rattle.std.specs.Option.{option_map}
 use Rattle.fp_model.specs.declared.name.Name.{Name}
 use Rattle.fp_audit.specs.declared.kept.Kept.{Kept}
-use Rattle.fp_audit.specs.Numbers.{AreKept, last_by_name, with_used}
+use Rattle.fp_audit.specs.Numbers.{AreKept}
+use Rattle.fp_audit.specs.inside.Numbers.{last_by_name, with_used}
 use Rattle.fp_audit.proofs.NumberLemmas.{kept_more}
 use Rattle.fp_audit.proofs.requests.put_used.Goals as goal
 

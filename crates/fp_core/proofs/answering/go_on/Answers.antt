@@ -18,7 +18,7 @@ use Rattle.fp_model.specs.Turns.{asks, noted}
 use Rattle.fp_model.specs.Workspace.{Workspace}
 use Rattle.txn_machine.specs.Running.{IsAt}
 use Rattle.fp_core.specs.declared.engine.Ahead.TheVariants as ahead
-use Rattle.fp_core.specs.Answering.{lock_for}
+use Rattle.fp_core.specs.inside.Answering.{lock_for}
 use Rattle.fp_core.specs.Relation.{IsAhead, IsCallAhead}
 use Rattle.fp_core.proofs.Goings.{as_exclusive, keeps, needs_are, noted_is, nothing}
 use Rattle.fp_core.proofs.Lacks.{is_first_lack}

@@ -1,7 +1,7 @@
 use Rattle.std.proofs.Common.{◌≡◌, ◌∙◌, sym, ap, List, ℕ}
 use Rattle.std.specs.Prelude.{Ok}
 use Rattle.fp_model.specs.Messages.{message_of}
-use Rattle.fp_core.specs.Reading.{IsDemandIn, IsDemandOf}
+use Rattle.fp_core.specs.inside.Reading.{IsDemandIn, IsDemandOf}
 use Rattle.fp_core.proofs.Askings.{demand_is}
 use Rattle.fp_core.proofs.Places.{if_ok_by}
 use Rattle.fp_core.proofs.asking.demand_in.Goals as goal

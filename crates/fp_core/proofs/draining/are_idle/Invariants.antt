@@ -1,6 +1,6 @@
 use Rattle.std.proofs.Common.{◌≡◌, drop}
 use Rattle.std.specs.List.{list_all}
-use Rattle.fp_core.specs.Rounding.{is_at_rest}
+use Rattle.fp_core.specs.inside.Rounding.{is_at_rest}
 use Rattle.fp_core.proofs.draining.are_idle.Given as goal
 
 -- those so far are at rest

@@ -1,7 +1,7 @@
 use Rattle.std.proofs.Common.{subst, Option}
 use Rattle.fp_model.specs.Machine.{terminal_in}
 use Rattle.fp_model.specs.declared.name.Name.{Name}
-use Rattle.fp_core.specs.Sealing.{AreFreed}
+use Rattle.fp_core.specs.inside.Sealing.{AreFreed}
 use Rattle.fp_core.proofs.Tells.{freed_one}
 use Rattle.fp_core.proofs.sealing.free.Goals as goal
 

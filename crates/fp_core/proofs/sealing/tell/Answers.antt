@@ -4,7 +4,7 @@ use Rattle.fp_model.specs.Machine.{terminal_in}
 use Rattle.fp_model.specs.Messages.{terminal_of}
 use Rattle.fp_site.specs.Disk.{Elapses, Sends}
 use Rattle.fp_core.specs.declared.engine.Owed.{Owed}
-use Rattle.fp_core.specs.Sealing.{AreFreed, replies_of, reply_of}
+use Rattle.fp_core.specs.inside.Sealing.{AreFreed, replies_of, reply_of}
 use Rattle.fp_site.proofs.Sendings.{all_after, part_after, part_wider, sent_after, sent_wider, take_whole}
 use Rattle.fp_core.proofs.Tells.{drop_next, flat_goes_on, flat_next, freed_both}
 use Rattle.fp_core.proofs.sealing.tell.Goals as goal

@@ -2,7 +2,7 @@ use Rattle.std.proofs.Common.{◌≡◌, ◌++◌, take, drop}
 use Rattle.std.specs.VecDeque.{deque_capacity}
 use Rattle.fp_site.specs.Disk.{Elapses, Sends}
 use Rattle.fp_site.specs.Site.{ReadsNothing}
-use Rattle.fp_core.specs.Sealing.{AreFreed, replies_of, terminals_of}
+use Rattle.fp_core.specs.inside.Sealing.{AreFreed, replies_of, terminals_of}
 use Rattle.fp_core.specs.Standing.{IsContinued}
 use Rattle.fp_core.proofs.sealing.tell.Given as goal
 

@@ -1,6 +1,6 @@
 use Rattle.std.proofs.Common.{◌≡◌, ◌++◌}
 use Rattle.std.specs.List.{AllByRecursion}
-use Rattle.fp_defs.specs.Segments.{IsNarrow}
+use Rattle.fp_defs.specs.inside.Segments.{IsNarrow}
 use Rattle.fp_defs.proofs.segments.narrowed.Given as goal
 
 abbrev pub invariant-loop-draft : goal.invariant-loop-draft

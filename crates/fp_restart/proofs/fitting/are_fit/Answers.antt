@@ -3,7 +3,7 @@ use Rattle.std.specs.Prelude.{drop}
 use Rattle.std.specs.List.{AllByRecursion}
 use Rattle.fp_model.specs.declared.log.Item.{Item}
 use Rattle.fp_model.specs.Items.{IsFit, items_of}
-use Rattle.fp_restart.specs.Begun.{Judges}
+use Rattle.fp_restart.specs.inside.Begun.{Judges}
 use Rattle.fp_restart.proofs.Firsts.{judges-none, judges-on}
 use Rattle.fp_restart.proofs.Fits.{all-next, items-append, items-next}
 use Rattle.fp_restart.proofs.fitting.are_fit.Goals as goal

@@ -5,7 +5,7 @@ use Rattle.std.specs.List.{AllByRecursion}
 use Rattle.fp_model.specs.declared.log.Item.{Item}
 use Rattle.fp_model.specs.Items.{IsFit}
 use Rattle.log_groups.proofs.LogImages.{all-append}
-use Rattle.fp_restart.specs.Begun.{Judges}
+use Rattle.fp_restart.specs.inside.Begun.{Judges}
 use Rattle.fp_restart.proofs.Firsts.{judges-none, judges-on}
 use Rattle.fp_restart.proofs.fitting.items_fit.Goals as goal
 

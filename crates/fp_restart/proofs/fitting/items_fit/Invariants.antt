@@ -1,7 +1,7 @@
 use Rattle.std.specs.Prelude.{take, true}
 use Rattle.std.specs.List.{AllByRecursion}
 use Rattle.fp_model.specs.Items.{IsFit}
-use Rattle.fp_restart.specs.Begun.{Judges}
+use Rattle.fp_restart.specs.inside.Begun.{Judges}
 use Rattle.fp_restart.proofs.fitting.items_fit.Given as goal
 
 -- the items so far may be applied, and each is fit

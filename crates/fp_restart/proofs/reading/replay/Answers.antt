@@ -7,7 +7,7 @@ use Rattle.log_groups.specs.Reads.{HasGroup}
 use Rattle.fp_restart.proofs.Groups.{read_at_most, read_inside}
 use Rattle.fp_restart.proofs.Looking.{Looks, looks_none, looks_on}
 use Rattle.fp_restart.proofs.NumbersBehind.{some_more, some_none, some_of}
-use Rattle.fp_restart.specs.Replayed.{HasNumbersOfSome}
+use Rattle.fp_restart.specs.inside.Replayed.{HasNumbersOfSome}
 use Rattle.fp_restart.proofs.Replays.{ended_at, followed_more, followed_none, way_of}
 use Rattle.fp_restart.proofs.reading.replay.Given as given
 use Rattle.fp_restart.proofs.reading.replay.Goals as goal

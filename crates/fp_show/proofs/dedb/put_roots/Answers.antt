@@ -2,7 +2,7 @@ use Rattle.std.proofs.Common.{◌≤◌, ℕ, List, ◌++◌, ◌∙◌, length,
 use Rattle.std.specs.Prelude.{flat_map}
 use Rattle.std.proofs.lemmas.List.{take_all}
 use Rattle.fp_model.specs.declared.database.Root.{Root}
-use Rattle.fp_show.specs.Walk.{root_text}
+use Rattle.fp_show.specs.inside.Walk.{root_text}
 use Rattle.fp_show.proofs.Walking.{roots_lines}
 use Rattle.fp_show.proofs.dedb.put_roots.Goals as goal
 

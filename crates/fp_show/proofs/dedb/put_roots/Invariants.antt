@@ -1,6 +1,6 @@
 use Rattle.std.proofs.Common.{◌≡◌, ◌++◌, take}
 use Rattle.std.specs.Prelude.{flat_map}
-use Rattle.fp_show.specs.Walk.{root_text}
+use Rattle.fp_show.specs.inside.Walk.{root_text}
 use Rattle.fp_show.proofs.dedb.put_roots.Given as goal
 
 -- the roots so far are there

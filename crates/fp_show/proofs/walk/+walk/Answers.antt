@@ -1,7 +1,7 @@
 use Rattle.std.proofs.Common.{◌≡◌, ◌<◌, ◌≤◌, ◌+◌, ℕ, List, ◌++◌, ◌∙◌, length, get_or, ap, arith, rules}
 use Rattle.std.proofs.lemmas.List.{take_all}
 use Rattle.fp_model.specs.declared.database.Node.{Node}
-use Rattle.fp_show.specs.Walk.{kinds_from, row_text}
+use Rattle.fp_show.specs.inside.Walk.{kinds_from, row_text}
 use Rattle.fp_show.proofs.Pairs.{all_written, written}
 use Rattle.fp_show.proofs.Walking.{rows_done, rows_next}
 use Rattle.fp_show.proofs.walk.+walk.Goals as goal

@@ -1,6 +1,6 @@
 use Rattle.std.proofs.Common.{◌≡◌, ◌++◌, drop, take}
 use Rattle.fp_model.specs.Order.{child_types}
-use Rattle.fp_show.specs.Walk.{kinds_from, row_text, rows_text}
+use Rattle.fp_show.specs.inside.Walk.{kinds_from, row_text, rows_text}
 use Rattle.fp_show.proofs.walk.+walk.Given as goal
 
 -- the segments of this row so far are there

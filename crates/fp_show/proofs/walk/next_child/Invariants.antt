@@ -1,5 +1,5 @@
 use Rattle.std.proofs.Common.{◌≡◌}
-use Rattle.fp_show.specs.Walk.{kinds_from}
+use Rattle.fp_show.specs.inside.Walk.{kinds_from}
 use Rattle.fp_show.proofs.walk.next_child.Given as goal
 
 -- none of the types so far is a child

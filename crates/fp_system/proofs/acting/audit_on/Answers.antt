@@ -9,9 +9,10 @@ use Rattle.log_groups.specs.Kept.{IsSound}
 use Rattle.site_audit.specs.Legal.{IsBrokenAt, IsIllegalLog, IsLegalLog}
 use Rattle.site_audit.specs.Verdicts.{SendsVerdict, legal_text}
 use Rattle.site_texts.specs.Texts.{ReadsOnce}
-use Rattle.fp_system.specs.Answers.{MayStandIn, status_of_audit}
+use Rattle.fp_system.specs.Answers.{MayStandIn}
+use Rattle.fp_system.specs.inside.Answers.{status_of_audit}
 use Rattle.fp_system.specs.Causes.{IsCausedBySite}
-use Rattle.fp_system.specs.Setups.{job_of}
+use Rattle.fp_system.specs.inside.Setups.{job_of}
 use Rattle.fp_system.specs.Table.{ByEntries, legal}
 use Rattle.fp_system.specs.declared.status.Status.{Status}
 use Rattle.fp_system.proofs.Audits.{audit_not_done, due_by_entries, illegal_is}

@@ -1,5 +1,5 @@
 use Rattle.std.proofs.Common.{◌≡◌, ◌∙◌, ◌++◌, [], drop, ap, refl, sym, subst}
-use Rattle.fp_system.specs.Setups.{job_of}
+use Rattle.fp_system.specs.inside.Setups.{job_of}
 use Rattle.fp_system.proofs.SentTexts.{read_one}
 use Rattle.std.specs.Prelude.{◌+◌, Err}
 use Rattle.fp_model.specs.LogText.{Front, first_gate, log_text}

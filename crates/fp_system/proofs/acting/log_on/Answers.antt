@@ -5,7 +5,7 @@ use Rattle.log_groups.specs.Images.{BeginsFor}
 use Rattle.site_texts.specs.Texts.{IsLogSent, IsSentToDamage, ReadsOnce, SendsGroups}
 use Rattle.fp_system.specs.Answers.{MayStandIn}
 use Rattle.fp_system.specs.Causes.{IsCausedBySite}
-use Rattle.fp_system.specs.Setups.{job_of}
+use Rattle.fp_system.specs.inside.Setups.{job_of}
 use Rattle.fp_system.specs.Table.{ByGroups, whole}
 use Rattle.fp_system.specs.declared.status.Status.{Status}
 use Rattle.fp_system.proofs.CauseLemmas.{fault_by_site, one_err}

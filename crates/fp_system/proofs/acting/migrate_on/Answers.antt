@@ -11,7 +11,7 @@ use Rattle.fp_system.specs.Causes.{IsCausedBySite}
 use Rattle.fp_system.specs.Gives.{format_entry}
 use Rattle.fp_system.specs.Ims.{IsUnchanged}
 use Rattle.fp_system.specs.Parts.{front_for, front_in}
-use Rattle.fp_system.specs.Setups.{IsSetup, job_of}
+use Rattle.fp_system.specs.inside.Setups.{IsSetup, job_of}
 use Rattle.fp_system.specs.Table as table
 use Rattle.fp_system.specs.Table.{ByLog, IsGood}
 use Rattle.fp_system.specs.declared.parts.Setup.{Setup}

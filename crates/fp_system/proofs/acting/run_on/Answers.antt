@@ -13,7 +13,7 @@ use Rattle.fp_system.specs.Courses.{input}
 use Rattle.fp_core.specs.Sparing.{IsLogSet as IsLog}
 use Rattle.fp_system.specs.Ims.{IsUnchanged}
 use Rattle.fp_system.specs.Parts.{front_in}
-use Rattle.fp_system.specs.Setups.{job_of}
+use Rattle.fp_system.specs.inside.Setups.{job_of}
 use Rattle.fp_system.specs.Table.{ByLog, IsEnd}
 use Rattle.fp_system.specs.declared.status.Status.{Status}
 use Rattle.fp_system.specs.declared.status.Status.TheVariants.{OldFormat}

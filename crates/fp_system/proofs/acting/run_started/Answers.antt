@@ -13,10 +13,11 @@ use Rattle.fp_model.specs.declared.events.Event.{Event}
 use Rattle.fp_model.specs.Rules.{Rules}
 use Rattle.fp_site.specs.Moments.{Through}
 use Rattle.schedule_runs.specs.Standing.{IsDone, IsLeftOnWay, IsStopped}
-use Rattle.fp_system.specs.Courses.{RanFrom, input}
+use Rattle.fp_system.specs.Courses.{input}
+use Rattle.fp_system.specs.inside.Courses.{RanFrom}
 use Rattle.fp_system.specs.declared.status.Status.{Status}
 use Rattle.fp_system.specs.Parts.{rules_for}
-use Rattle.fp_system.specs.Setups.{job_of}
+use Rattle.fp_system.specs.inside.Setups.{job_of}
 use Rattle.fp_system.proofs.Begins.{any_history, any_states, reached_at_rest, stands_beside}
 use Rattle.fp_core.proofs.Onwards.{reads_nothing_none}
 use Rattle.fp_system.specs.Causes.{IsCaused}

@@ -10,7 +10,7 @@ use Rattle.site_texts.specs.Texts.{IsDbSent, ReadsOnce, SendsDb}
 use Rattle.fp_system.specs.Answers.{MayStandIn}
 use Rattle.fp_system.specs.Causes.{IsCausedBySite}
 use Rattle.fp_system.specs.Parts.{front_for}
-use Rattle.fp_system.specs.Setups.{job_of}
+use Rattle.fp_system.specs.inside.Setups.{job_of}
 use Rattle.fp_system.specs.Table.{ByLog, good}
 use Rattle.fp_system.specs.declared.status.Status.TheVariants.{Done}
 use Rattle.fp_system.specs.declared.status.Status.{Status}

@@ -2,7 +2,7 @@ use Rattle.std.proofs.Common.{◌≡◌}
 use Rattle.std.proofs.lemmas.Result.{err_from_is_err_and}
 use Rattle.fp_exits.specs.Kinds.{kinds_of}
 use Rattle.fp_source.specs.declared.part.Part.TheVariants as part
-use Rattle.fp_system.specs.Setups.{job_of}
+use Rattle.fp_system.specs.inside.Setups.{job_of}
 use Rattle.fp_system.proofs.Jobs.{or_schedule}
 use Rattle.fp_system.proofs.parts.read_task.Goals as goal
 

@@ -6,12 +6,13 @@ use Rattle.fp_model.specs.LogText.{first_gate}
 use Rattle.fp_site.specs.Moments.{Through}
 use Rattle.fp_source.specs.declared.part.Part.TheVariants as part
 use Rattle.log_groups.specs.Images.{IsAtRest, IsBeforeOrMade}
-use Rattle.fp_system.specs.Answers.{IsOfParts, MayStandIn}
+use Rattle.fp_system.specs.Answers.{MayStandIn}
+use Rattle.fp_system.specs.inside.Answers.{IsOfParts}
 use Rattle.fp_system.specs.Gives.{Audited, HasNewText, Logged, Migrated, Ran, Shown}
 use Rattle.fp_system.specs.Courses.{input}
 use Rattle.site_texts.specs.Texts.{ReadsOnce}
 use Rattle.fp_system.specs.Parts.{HasEvents, Job, Refuses, front_for}
-use Rattle.fp_system.specs.Setups.{HasEventsFor, job_of}
+use Rattle.fp_system.specs.inside.Setups.{HasEventsFor, job_of}
 use Rattle.fp_system.specs.Table as table
 use Rattle.fp_system.specs.Table.{ByLog, IsEnd}
 use Rattle.command_words.specs.Words.{command_of}

@@ -1,6 +1,6 @@
 use Rattle.std.proofs.Common.{◌≡◌, ◌+◌, take}
 use Rattle.std.specs.List.{sum_by}
-use Rattle.log_format.specs.Sizes.{item_size}
+use Rattle.log_format.specs.inside.Sizes.{item_size}
 use Rattle.log_format.proofs.sizes.items_length.Given as goal
 
 -- the count, and the items so far

@@ -2,7 +2,7 @@ use Rattle.std.proofs.Common.{◌≡◌, ◌+◌, ◌≤◌, ◌++◌, length, t
 use Rattle.std.specs.List.{flat_map, sum_by, AllByRecursion}
 use Rattle.fp_model.specs.Spellings.{be32}
 use Rattle.fp_model.specs.LogText.{IsItem, item_text}
-use Rattle.log_format.specs.Sizes.{item_size}
+use Rattle.log_format.specs.inside.Sizes.{item_size}
 use Rattle.log_format.proofs.writing.write_items.Given as goal
 
 -- what was there, the count, and the items so far, which are items of their types

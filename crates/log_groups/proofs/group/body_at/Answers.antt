@@ -1,5 +1,5 @@
 use Rattle.std.proofs.Common.{◌+◌, ◌≤◌, length, take, drop, ◌∙◌, ap, arith}
-use Rattle.log_groups.specs.Reads.{HasLength}
+use Rattle.log_groups.specs.inside.Reads.{HasLength}
 use Rattle.log_groups.proofs.BodyReads.{body_read, group_ends, group_long}
 use Rattle.log_groups.proofs.group.body_at.Goals as goal
 

@@ -1,6 +1,6 @@
 use Rattle.std.proofs.Common.{ap, subst, rules}
 use Rattle.log_format.specs.Faults.{Spells, IsFirstBad}
-use Rattle.log_groups.specs.Reads.{HasBody}
+use Rattle.log_groups.specs.inside.Reads.{HasBody}
 use Rattle.log_groups.proofs.BodyReads.{group_read, body_is_damage, damaged_place}
 use Rattle.log_groups.proofs.group.read_group.Goals as goal
 

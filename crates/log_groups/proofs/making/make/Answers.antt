@@ -4,7 +4,8 @@ use Rattle.fp_model.specs.LogText.{front_rest}
 use Rattle.fp_site.specs.Moments.{Through}
 use Rattle.fp_site.proofs.Frames.{only_joined}
 use Rattle.gated_write.specs.Gates.{IsGatedImage}
-use Rattle.log_groups.specs.Images.{IsGated, IsOpened, as_front}
+use Rattle.log_groups.specs.Images.{as_front}
+use Rattle.log_groups.specs.inside.Images.{IsGated, IsOpened}
 use Rattle.log_groups.proofs.Shutting.{length-front, once_made, made_image, made_log}
 use Rattle.log_groups.proofs.FrontsKept.{new_length, new_text}
 use Rattle.log_groups.proofs.making.make.Goals as goal

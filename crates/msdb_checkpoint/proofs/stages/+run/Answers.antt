@@ -1,7 +1,8 @@
 use Rattle.std.proofs.Common.{subst}
 use Rattle.fp_site.proofs.Frames.{only_joined}
 use Rattle.fp_site.proofs.Runs.{joined, weaker}
-use Rattle.msdb_checkpoint.specs.Steps.{IsAt, IsNext}
+use Rattle.msdb_checkpoint.specs.Steps.{IsAt}
+use Rattle.msdb_checkpoint.specs.inside.Steps.{IsNext}
 use Rattle.msdb_checkpoint.proofs.StageLemmas.{and_then}
 use Rattle.msdb_checkpoint.proofs.stages.+run.Goals as goal
 

@@ -1,8 +1,8 @@
 use Rattle.std.proofs.Common.{◌≡◌, ◌∙◌, ◌≤◌, ◌+◌, ◌++◌, ◌∷◌, [], List, ℕ, zero, suc, ap, sym, subst, Some, map, take, length, slice_get, slice_index_or, slice_set, arith, rules}
 use Rattle.std.proofs.lemmas.List.{take_more_set}
 use Rattle.fp_model.specs.declared.database.Msdb.{Msdb}
-use Rattle.msdb_store.specs.Putting.{AreFew}
-use Rattle.msdb_store.specs.Rooms.{msdb_of, room_of}
+use Rattle.msdb_store.specs.inside.Putting.{AreFew}
+use Rattle.msdb_store.specs.inside.Rooms.{msdb_of, room_of}
 use Rattle.msdb_store.specs.Store.{least}
 use Rattle.msdb_store.specs.declared.table.Table.{Table}
 use Rattle.key_order.proofs.Ascending.{stands_there}

@@ -1,6 +1,6 @@
 use Rattle.std.proofs.Common.{◌≡◌, ◌≤◌, length, map, take}
-use Rattle.msdb_store.specs.Putting.{AreFew}
-use Rattle.msdb_store.specs.Rooms.{msdb_of, room_of}
+use Rattle.msdb_store.specs.inside.Putting.{AreFew}
+use Rattle.msdb_store.specs.inside.Rooms.{msdb_of, room_of}
 use Rattle.msdb_store.specs.Store.{least}
 use Rattle.msdb_store.proofs.store.make_room.Given as goal
 

@@ -2,7 +2,7 @@ use Rattle.std.proofs.Common.{◌≡◌, true, take}
 use Rattle.std.specs.List.{list_all}
 use Rattle.fp_model.specs.Numbers.{is_digit}
 use Rattle.fp_model.specs.Texts.{value}
-use Rattle.packed_dec.specs.Halves.{halves}
+use Rattle.packed_dec.specs.inside.Halves.{halves}
 use Rattle.packed_dec.proofs.reading.digit_pairs.Given as goal
 
 abbrev pub invariant-loop-byte : goal.invariant-loop-byte

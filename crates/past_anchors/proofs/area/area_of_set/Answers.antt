@@ -1,5 +1,5 @@
 use Rattle.std.proofs.Common.{◌≡◌, ◌<◌, length, get_or, ap, arith, refl}
-use Rattle.past_anchors.specs.Places.{area_of}
+use Rattle.past_anchors.specs.inside.Places.{area_of}
 use Rattle.past_anchors.proofs.Areas.{set_found, set_later}
 use Rattle.past_anchors.proofs.area.area_of_set.Goals as goal
 

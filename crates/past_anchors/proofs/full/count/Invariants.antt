@@ -1,7 +1,7 @@
 use Rattle.std.proofs.Common.{◌≡◌, ◌≤◌, length, take}
 use Rattle.std.specs.Prelude.{filter}
 use Rattle.fp_model.specs.Commit.{takes}
-use Rattle.past_anchors.specs.Places.{area_of}
+use Rattle.past_anchors.specs.inside.Places.{area_of}
 use Rattle.past_anchors.proofs.full.count.Given as goal
 
 abbrev pub invariant-loop-insert : goal.invariant-loop-insert

@@ -1,6 +1,6 @@
 use Rattle.std.proofs.Common.{◌∙◌, sym, arith}
 use Rattle.past_anchors.specs.Databases.{state_of}
-use Rattle.past_anchors.specs.Places.{area_of}
+use Rattle.past_anchors.specs.inside.Places.{area_of}
 use Rattle.past_anchors.proofs.Fulls.{full_is, no_full, no_inserts}
 use Rattle.past_anchors.proofs.full.full_at.Goals as goal
 use Rattle.past_anchors.proofs.full.full_at.Goals.{else-n-gt0-via-then-n-gt0+else-is_too_full, else-n-gt0-via-else-n-gt0}

@@ -1,8 +1,8 @@
 use Rattle.std.proofs.Common.{◌≡◌, ◌<◌, ◌∙◌, ℕ, Some, None, ap, sym, subst, length, arith, refl, slice_get, slice_set}
 use Rattle.fp_model.specs.declared.database.Dedb.{Dedb}
 use Rattle.past_anchors.specs.Databases.{state_of}
-use Rattle.past_anchors.specs.Inserts.{with_numbered}
-use Rattle.past_anchors.specs.Places.{area_of}
+use Rattle.past_anchors.specs.inside.Inserts.{with_numbered}
+use Rattle.past_anchors.specs.inside.Places.{area_of}
 use Rattle.past_anchors.proofs.Inserting.{anchor_within, dedb_good, dedb_within, ends_there, inserted, its_area, its_def, keys_ascend, last_is, no_area, no_database, number_within, roots_there}
 use Rattle.past_anchors.proofs.Lists.{on_ok}
 use Rattle.past_anchors.proofs.numbering.insert.Goals as goal

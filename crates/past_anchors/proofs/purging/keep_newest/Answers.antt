@@ -1,5 +1,5 @@
 use Rattle.std.proofs.Common.{◌∙◌, ap, sym}
-use Rattle.past_anchors.specs.Purges.{ends_below}
+use Rattle.past_anchors.specs.inside.Purges.{ends_below}
 use Rattle.past_anchors.proofs.Dropping.{all_kept, popped_falls, popped_kept}
 use Rattle.past_anchors.proofs.purging.keep_newest.Goals as goal
 

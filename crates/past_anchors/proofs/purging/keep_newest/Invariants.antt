@@ -1,6 +1,6 @@
 use Rattle.std.proofs.Common.{◌≡◌, length}
 use Rattle.std.specs.Prelude.{filter, nat_le}
-use Rattle.past_anchors.specs.Purges.{AreFalling}
+use Rattle.past_anchors.specs.inside.Purges.{AreFalling}
 use Rattle.past_anchors.proofs.purging.keep_newest.Given as goal
 
 abbrev pub invariant-loop-seqs : goal.invariant-loop-seqs

@@ -1,6 +1,6 @@
 use Rattle.std.proofs.Common.{◌≡◌, ◌∙◌, ℕ, Some, ap, sym, subst, arith, slice_get, slice_set}
 use Rattle.past_anchors.specs.Databases.{state_of}
-use Rattle.past_anchors.specs.Places.{area_of}
+use Rattle.past_anchors.specs.inside.Places.{area_of}
 use Rattle.past_anchors.proofs.Dropping.{anchors_within, fall_there, in_areas, in_dedbs, purged_is}
 use Rattle.past_anchors.proofs.purging.purge_area.Goals as goal
 

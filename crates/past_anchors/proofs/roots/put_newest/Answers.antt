@@ -4,7 +4,7 @@ use Rattle.fp_model.specs.Order.{root_key}
 use Rattle.fp_model.specs.State.{ascend}
 use Rattle.fp_model.specs.declared.database.Root.{Root}
 use Rattle.fp_model.specs.declared.database.SeqItem.{SeqItem}
-use Rattle.past_anchors.specs.Places.{IsChangedAt}
+use Rattle.past_anchors.specs.inside.Places.{IsChangedAt}
 use Rattle.past_anchors.proofs.Lists.{on_ok}
 use Rattle.past_anchors.proofs.roots.put_newest.Goals as goal
 

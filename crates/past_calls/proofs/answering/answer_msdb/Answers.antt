@@ -3,7 +3,7 @@ use Rattle.fp_model.specs.declared.database.Msdb.{Msdb}
 use Rattle.fp_model.specs.MsdbCalls.{msdb_reply}
 use Rattle.past_segments.specs.Times.{database_at}
 use Rattle.past_segments.specs.Pasts.{databases_at}
-use Rattle.past_calls.specs.Replies.{segments_in}
+use Rattle.past_calls.specs.inside.Replies.{segments_in}
 use Rattle.past_calls.proofs.AnswerLemmas.{names_it, replies}
 use Rattle.past_calls.proofs.BeginLemmas.{if_ok}
 use Rattle.past_calls.proofs.PastLemmas.{shown_at}

@@ -6,7 +6,7 @@ use Rattle.fp_model.specs.declared.database.Root.{Root}
 use Rattle.fp_model.specs.Calls.{database_of, reply_to, target_of}
 use Rattle.fp_model.specs.Shape.{is_anchor}
 use Rattle.fp_model.specs.Workspace.{Workspace}
-use Rattle.past_calls.specs.Needs.{lacking_on}
+use Rattle.past_calls.specs.inside.Needs.{lacking_on}
 use Rattle.past_calls.specs.Progress.{Progress}
 use Rattle.past_calls.specs.Targets.{anchor_needed}
 use Rattle.past_calls.proofs.HandLemmas.{any_target, few_on, fewer_on, fits_still, leaves_on, still_sees}

@@ -2,7 +2,7 @@ use Rattle.std.proofs.Common.{◌≡◌, ◌+◌, ◌≤◌}
 use Rattle.dedb_calls.specs.Anchors.{Sees}
 use Rattle.fp_model.specs.Calls.{database_of, target_of}
 use Rattle.fp_model.specs.declared.database.Db.{Db}
-use Rattle.past_calls.specs.Needs.{lacking_on}
+use Rattle.past_calls.specs.inside.Needs.{lacking_on}
 use Rattle.past_calls.specs.Progress.{IsWorkOf}
 use Rattle.past_calls.specs.Roots.{AreRootsOf}
 use Rattle.past_calls.proofs.on_roots.answer_on.Given as goal

@@ -11,7 +11,7 @@ use Rattle.fp_model.specs.Serial.{Ends, refused_as, settled_as}
 use Rattle.past_segments.specs.Pasts.{databases_at}
 use Rattle.past_replay.specs.declared.running.End.TheVariants as ends
 use Rattle.past_replay.specs.Ends.{with_next}
-use Rattle.past_replay.specs.Running.{IsEnd}
+use Rattle.past_replay.specs.inside.Running.{IsEnd}
 use Rattle.past_replay.specs.States.{state_at}
 use Rattle.past_replay.proofs.SettledLemmas.{settled_later, shows_next}
 use Rattle.past_replay.proofs.replaying.replay.Goals as goal

@@ -1,5 +1,5 @@
 use Rattle.std.proofs.Common.{subst, ◌+◌, take}
-use Rattle.past_settling.specs.Queues.{TakesBack, any_names, names}
+use Rattle.past_settling.specs.inside.Queues.{TakesBack, any_names, names}
 use Rattle.past_settling.proofs.BackLemmas.{back_more, nothing_back, one_more, take_whole}
 use Rattle.past_settling.proofs.back.take_back_all.Goals as goal
 

@@ -1,5 +1,5 @@
 use Rattle.std.proofs.Common.{take}
-use Rattle.past_settling.specs.Queues.{TakesBack, any_names}
+use Rattle.past_settling.specs.inside.Queues.{TakesBack, any_names}
 use Rattle.past_settling.proofs.back.take_back_all.Given as goal
 
 abbrev pub invariant-loop-at : goal.invariant-loop-at

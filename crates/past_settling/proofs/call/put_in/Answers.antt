@@ -3,8 +3,8 @@ use Rattle.std.specs.Option.{option_map_or}
 use Rattle.fp_model.specs.State.{key_of, with_segment}
 use Rattle.fp_model.specs.declared.definitions.MsdbDef.{MsdbDef}
 use Rattle.past_segments.specs.Times.{Past}
-use Rattle.past_settling.specs.Queues.{key_in}
-use Rattle.past_settling.specs.Settling.{Leaves}
+use Rattle.past_settling.specs.inside.Queues.{key_in}
+use Rattle.past_settling.specs.inside.Settling.{Leaves}
 use Rattle.past_settling.proofs.OneLemmas.{on_ok}
 use Rattle.past_settling.proofs.QueueLemmas.{its_end, its_past, leaves, now_with, within}
 use Rattle.past_settling.proofs.call.put_in.Goals as goal

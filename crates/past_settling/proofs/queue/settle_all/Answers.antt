@@ -5,7 +5,8 @@ use Rattle.fp_model.specs.Settle.{Becomes, settle_from}
 use Rattle.fp_model.specs.declared.calls.Deferred.{Deferred}
 use Rattle.past_segments.specs.Pasts.{databases_at}
 use Rattle.past_settling.specs.declared.fault.QueueFault.{QueueFault}
-use Rattle.past_settling.specs.Queues.{IsCall, IsQueue, any_names, names}
+use Rattle.past_settling.specs.Queues.{IsQueue}
+use Rattle.past_settling.specs.inside.Queues.{IsCall, any_names, names}
 use Rattle.past_settling.proofs.QueueLemmas.{all_done, any_false, drop_end, failed, leaves_on, next_is, stepped}
 use Rattle.past_settling.proofs.queue.settle_all.Goals as goal
 

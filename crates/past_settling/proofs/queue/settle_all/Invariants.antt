@@ -1,7 +1,7 @@
 use Rattle.std.proofs.Common.{◌≡◌, drop}
 use Rattle.fp_model.specs.Settle.{settle, settle_from}
 use Rattle.past_segments.specs.Pasts.{databases_at}
-use Rattle.past_settling.specs.Queues.{LeavesAll, any_names}
+use Rattle.past_settling.specs.inside.Queues.{LeavesAll, any_names}
 use Rattle.past_settling.proofs.queue.settle_all.Given as goal
 
 abbrev pub invariant-loop-at : goal.invariant-loop-at

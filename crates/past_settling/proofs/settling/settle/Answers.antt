@@ -3,7 +3,8 @@ use Rattle.std.specs.Prelude.{Result}
 use Rattle.fp_model.specs.Settle.{settle}
 use Rattle.past_segments.specs.Pasts.{databases_at}
 use Rattle.past_settling.specs.declared.fault.QueueFault.{QueueFault}
-use Rattle.past_settling.specs.Queues.{IsQueue, any_names}
+use Rattle.past_settling.specs.Queues.{IsQueue}
+use Rattle.past_settling.specs.inside.Queues.{any_names}
 use Rattle.past_settling.proofs.BackLemmas.{are_so, as_long, ends_later, ends_so, same_counts, shows_on_all, shows_so}
 use Rattle.past_settling.proofs.settling.settle.Goals as goal
 

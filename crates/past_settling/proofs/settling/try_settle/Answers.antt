@@ -3,7 +3,8 @@ use Rattle.std.specs.Prelude.{List}
 use Rattle.fp_model.specs.declared.calls.Deferred.{Deferred}
 use Rattle.fp_model.specs.declared.database.Msdb.{Msdb}
 use Rattle.past_segments.specs.Pasts.{databases_at}
-use Rattle.past_settling.specs.Queues.{IsQueue, any_names}
+use Rattle.past_settling.specs.Queues.{IsQueue}
+use Rattle.past_settling.specs.inside.Queues.{any_names}
 use Rattle.past_settling.proofs.BackLemmas.{are_so, as_long, ends_later, ends_so, found_so, same_counts, shows_on_all, shows_so}
 use Rattle.past_settling.proofs.settling.try_settle.Goals as goal
 

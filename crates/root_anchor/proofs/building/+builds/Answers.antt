@@ -5,7 +5,7 @@ use Rattle.std.proofs.lemmas.Result.{err_from_is_err_and}
 use Rattle.std.proofs.Common.{ℕ, List}
 use Rattle.std.proofs.lemmas.List.{get_or_read, length-set}
 use Rattle.anchor_elements.specs.Elements.{has_serial}
-use Rattle.root_anchor.specs.Rebuilding.{IsPlanned, IsDirect, BuildsRows, types_of_rows}
+use Rattle.root_anchor.specs.inside.Rebuilding.{IsPlanned, IsDirect, BuildsRows, types_of_rows}
 use Rattle.fp_model.specs.Order.{child_types}
 use Rattle.root_anchor.proofs.Exits.{same_fault}
 use Rattle.root_anchor.proofs.Growing.{row-none, row-part, row-on, row-whole, rows-none, rows-part, rows-on, rows-whole, RowDone, RowsDone, parted, room-planned, segment-made, same-types}

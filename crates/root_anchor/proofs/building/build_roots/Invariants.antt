@@ -1,6 +1,6 @@
 use Rattle.std.proofs.Common.{◌≤◌, List, length}
 use Rattle.ci_space.specs.Calls.{GoesOn}
-use Rattle.root_anchor.specs.Rebuilding.{IsPlanned, types_of_roots}
+use Rattle.root_anchor.specs.inside.Rebuilding.{IsPlanned, types_of_roots}
 use Rattle.root_anchor.specs.declared.plan.Planned.{Planned}
 use Rattle.root_anchor.proofs.Growing.{RootsDone}
 use Rattle.root_anchor.proofs.building.build_roots.Given as goal

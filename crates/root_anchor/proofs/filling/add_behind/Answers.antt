@@ -4,7 +4,7 @@ use Rattle.ci_overflow.specs.Faults.{IsAtFault}
 use Rattle.anchor_elements.specs.Elements.{HasSegment}
 use Rattle.anchor_elements.specs.Reading.{segment_of}
 use Rattle.root_anchor.specs.Chains.{AreRoots}
-use Rattle.root_anchor.specs.Gaps.{AddsBehind}
+use Rattle.root_anchor.specs.inside.Gaps.{AddsBehind}
 use Rattle.root_anchor.proofs.FillLemmas.{behind_few, behind_one, behind_stay, behind_rebuilds}
 use Rattle.root_anchor.proofs.FindingLemmas.{found_there}
 use Rattle.root_anchor.proofs.filling.add_behind.Goals as goal

@@ -1,7 +1,7 @@
 use Rattle.std.proofs.Common.{refl}
 use Rattle.std.proofs.lemmas.Result.{err_from_is_err_and}
 use Rattle.ci_overflow.proofs.Joins.{on_ok-map}
-use Rattle.root_anchor.specs.Gaps.{AddsInFront}
+use Rattle.root_anchor.specs.inside.Gaps.{AddsInFront}
 use Rattle.root_anchor.proofs.Rebuilt.{place-stays}
 use Rattle.root_anchor.proofs.TypeLemmas.{root-direct, root_form}
 use Rattle.root_anchor.proofs.filling.add_in_front.Goals as goal

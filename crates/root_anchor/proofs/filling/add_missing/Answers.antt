@@ -8,9 +8,10 @@ use Rattle.fp_model.specs.declared.database.Root.{Root}
 use Rattle.fp_model.specs.Order.{child_types}
 use Rattle.root_anchor.specs.Chains.{root_of}
 use Rattle.root_anchor.specs.Formed.{HasRoots}
-use Rattle.root_anchor.specs.Gaps.{AddsInFront, AddsOne, FewChange, SegmentsStay}
-use Rattle.root_anchor.specs.Rebuilding.{Rebuilds}
-use Rattle.root_anchor.specs.Standing.{AreStanding}
+use Rattle.root_anchor.specs.Gaps.{AddsOne, FewChange, SegmentsStay}
+use Rattle.root_anchor.specs.inside.Gaps.{AddsInFront}
+use Rattle.root_anchor.specs.inside.Rebuilding.{Rebuilds}
+use Rattle.root_anchor.specs.inside.Standing.{AreStanding}
 use Rattle.root_anchor.specs.Stored.{is_storable}
 use Rattle.root_changes.proofs.GainingLemmas.{first_more, more_item}
 use Rattle.root_anchor.proofs.FillLemmas.{front_few, front_one, front_stay, front_rebuilds}

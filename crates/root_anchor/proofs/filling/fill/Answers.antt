@@ -1,7 +1,7 @@
 use Rattle.std.proofs.lemmas.Result.{err_from_is_err_and}
 use Rattle.ci_overflow.proofs.Joins.{on_ok-map}
 use Rattle.anchor_elements.specs.Reading.{segment_of}
-use Rattle.root_anchor.specs.Gaps.{AddsBehind}
+use Rattle.root_anchor.specs.inside.Gaps.{AddsBehind}
 use Rattle.root_anchor.proofs.FillLemmas.{others_there}
 use Rattle.root_anchor.proofs.filling.fill.Goals as goal
 

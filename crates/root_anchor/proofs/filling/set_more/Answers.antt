@@ -4,9 +4,10 @@ use Rattle.ci_overflow.specs.Faults.{IsAtFault}
 use Rattle.ci_overflow.specs.Lists.{IsInOrder}
 use Rattle.root_changes.specs.Gaining.{RootsGain}
 use Rattle.root_anchor.specs.Formed.{HasChain, HasRoots}
-use Rattle.root_anchor.specs.Gaps.{AddsOne, FewChange, Refills, SegmentsStay}
-use Rattle.root_anchor.specs.Rebuilding.{Rebuilds}
-use Rattle.root_anchor.specs.Standing.{AreStanding}
+use Rattle.root_anchor.specs.Gaps.{AddsOne, FewChange, SegmentsStay}
+use Rattle.root_anchor.specs.inside.Gaps.{Refills}
+use Rattle.root_anchor.specs.inside.Rebuilding.{Rebuilds}
+use Rattle.root_anchor.specs.inside.Standing.{AreStanding}
 use Rattle.root_anchor.proofs.BaseLemmas.{standing_walked}
 use Rattle.root_anchor.proofs.FillLemmas.{any_ok, ok_map}
 use Rattle.root_anchor.proofs.OneChain.{one_chain}

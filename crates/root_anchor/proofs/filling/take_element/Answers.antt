@@ -1,7 +1,7 @@
 use Rattle.std.proofs.Common.{◌≡◌, ℕ, Err, sym, subst, ap, ◌∙◌, arith}
 use Rattle.ci_space.proofs.Tilings.{size-bounds}
 use Rattle.ci_overflow.specs.Faults.{FitsEmpty}
-use Rattle.ci_overflow.specs.Rooms.{TakesOne}
+use Rattle.ci_overflow.specs.inside.Rooms.{TakesOne}
 use Rattle.ci_overflow.specs.declared.SpaceFault.TheVariants.{Damaged as SpaceDamaged}
 use Rattle.anchor_elements.specs.declared.fault.AnchorFault.TheVariants.{Damaged}
 use Rattle.root_anchor.proofs.TypeLemmas.{fits-empty, content-small}

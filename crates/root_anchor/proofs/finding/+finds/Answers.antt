@@ -6,7 +6,7 @@ use Rattle.fp_model.specs.Order.{child_types}
 use Rattle.anchor_elements.specs.declared.element.First.{First}
 use Rattle.anchor_elements.specs.Reading.{types_of, pointers_of, segment_of}
 use Rattle.root_changes.specs.Differing.{NodesDiffer, RowDiffers}
-use Rattle.root_anchor.specs.Finding.{says_of}
+use Rattle.root_anchor.specs.inside.Finding.{says_of}
 use Rattle.root_anchor.specs.Stored.{rows_have_form}
 use Rattle.root_changes.proofs.ComparingLemmas.{differ_told, thing_told, read_there, nodes_apart, node_told, inside}
 use Rattle.root_anchor.proofs.FindingLemmas.{first_at, count_of, rows_at, rows_row, row_twin, below_twin, itself_found, below_found, give_as, differ_as, in_as, found_map}

@@ -4,7 +4,7 @@ use Rattle.fp_model.specs.declared.database.Root.{Root}
 use Rattle.fp_model.specs.Order.{child_types}
 use Rattle.anchor_elements.specs.Reading.{types_of, pointers_of, segment_of}
 use Rattle.root_changes.specs.Differing.{RootDiffers, RowDiffers}
-use Rattle.root_anchor.specs.Finding.{says_of}
+use Rattle.root_anchor.specs.inside.Finding.{says_of}
 use Rattle.root_anchor.specs.Stored.{rows_have_form}
 use Rattle.root_changes.proofs.ComparingLemmas.{differ_told, thing_told, read_there, roots_apart, root_told, inside}
 use Rattle.root_anchor.proofs.FindingLemmas.{count_of, root_twin, below_twin, root_found, below_root_found, give_as, differ_as, in_as, found_map}

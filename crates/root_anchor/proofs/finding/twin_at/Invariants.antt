@@ -1,6 +1,6 @@
 use Rattle.anchor_elements.specs.Elements.{Pointer, Segment}
-use Rattle.root_anchor.specs.Finding.{IsTwinAt}
-use Rattle.root_anchor.specs.Walking.{IsLook}
+use Rattle.root_anchor.specs.inside.Finding.{IsTwinAt}
+use Rattle.root_anchor.specs.inside.Walking.{IsLook}
 use Rattle.root_anchor.proofs.finding.twin_at.Given as goal
 
 -- the twin that is left to find from here on is the one from the first on

@@ -1,7 +1,7 @@
 use Rattle.std.proofs.Common.{ℕ, ◌+◌, ◌-◌, ◌≤◌}
 use Rattle.anchor_elements.specs.Elements.{Pointer, Segment}
 use Rattle.root_anchor.specs.Roots.{IsRootAt, AreSoMany, TwinsFail}
-use Rattle.root_anchor.specs.Walking.{IsLook}
+use Rattle.root_anchor.specs.inside.Walking.{IsLook}
 use Rattle.root_anchor.proofs.places.root_place.Given as goal
 
 -- what is found from here on is found from the first root on

@@ -3,8 +3,9 @@ use Rattle.std.proofs.lemmas.List.{drop_all, get_or_read, length-append, take_al
 use Rattle.fp_model.specs.Order.{child_types, key_in}
 use Rattle.ci_overflow.proofs.Joins.{on_ok-map}
 use Rattle.root_anchor.specs.declared.standing.Standing.{Standing}
-use Rattle.root_anchor.specs.Keeping.{IsLastOf, PlansAll, kept, keys_of_row, keys_of_rows}
-use Rattle.root_anchor.specs.Rebuilding.{types_of, types_of_segment, types_of_row}
+use Rattle.root_anchor.specs.Keeping.{keys_of_rows}
+use Rattle.root_anchor.specs.inside.Keeping.{IsLastOf, PlansAll, kept, keys_of_row}
+use Rattle.root_anchor.specs.inside.Rebuilding.{types_of, types_of_segment, types_of_row}
 use Rattle.fp_model.specs.declared.database.Node.{Node, out-Node}
 use Rattle.root_anchor.proofs.Growing.{row-planned, rows-planned, rows-unplanned, planned-on}
 use Rattle.root_anchor.proofs.KeepLemmas.{headed, headed-last, in_rows_none, planning-none, planning-on, planning-whole, row-keys, rows-keys}

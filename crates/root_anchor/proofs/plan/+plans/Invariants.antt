@@ -1,6 +1,7 @@
 use Rattle.std.proofs.Common.{◌≡◌, ◌≤◌, ◌+◌, ◌-◌, ◌*◌, ◌++◌, List, length, take, drop}
-use Rattle.root_anchor.specs.Keeping.{IsPlanning, keys_of_row, keys_of_rows, marks_of}
-use Rattle.root_anchor.specs.Rebuilding.{Shares, types_of, types_of_row, types_of_rows}
+use Rattle.root_anchor.specs.Keeping.{keys_of_rows}
+use Rattle.root_anchor.specs.inside.Keeping.{IsPlanning, keys_of_row, marks_of}
+use Rattle.root_anchor.specs.inside.Rebuilding.{Shares, types_of, types_of_row, types_of_rows}
 use Rattle.root_anchor.specs.declared.standing.Standing.{Standing}
 use Rattle.root_anchor.proofs.plan.+plans.Given as goal
 

@@ -1,5 +1,5 @@
 use Rattle.std.proofs.Common.{◌≡◌, ℕ, ◌<◌, ◌≤◌, ◌-◌, length}
-use Rattle.root_anchor.specs.Keeping.{IsLastOf}
+use Rattle.root_anchor.specs.inside.Keeping.{IsLastOf}
 use Rattle.root_anchor.proofs.plan.find_like.Given as goal
 
 -- the last element of the type that has the key is still in front

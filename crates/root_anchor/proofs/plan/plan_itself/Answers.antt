@@ -1,5 +1,5 @@
 use Rattle.std.proofs.Common.{List, sym, subst}
-use Rattle.root_anchor.specs.Rebuilding.{Shares}
+use Rattle.root_anchor.specs.inside.Rebuilding.{Shares}
 use Rattle.root_anchor.specs.declared.plan.Planned.{Planned}
 use Rattle.root_anchor.proofs.Sharing.{shares-more}
 use Rattle.root_anchor.proofs.plan.plan_itself.Goals as goal

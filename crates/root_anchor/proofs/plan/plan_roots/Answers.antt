@@ -1,8 +1,9 @@
 use Rattle.std.proofs.Common.{◌≡◌, ◌∙◌, ◌-◌, ◌++◌, suc, List, [], length, get_or, take, refl, sym, ap, subst, arith}
 use Rattle.std.proofs.lemmas.List.{append-nil, take_all}
 use Rattle.fp_model.specs.declared.database.Root.{Root}
-use Rattle.root_anchor.specs.Keeping.{IsPlanning, kept, keys_of_roots}
-use Rattle.root_anchor.specs.Rebuilding.{types_of, types_of_segment, Shares}
+use Rattle.root_anchor.specs.Keeping.{keys_of_roots}
+use Rattle.root_anchor.specs.inside.Keeping.{IsPlanning, kept}
+use Rattle.root_anchor.specs.inside.Rebuilding.{types_of, types_of_segment, Shares}
 use Rattle.root_anchor.specs.declared.plan.Planned.{Planned}
 use Rattle.root_anchor.proofs.Growing.{roots-planned, roots-unplanned}
 use Rattle.root_anchor.proofs.KeepLemmas.{planning-none, planning-on, planning-whole, roots-keys}

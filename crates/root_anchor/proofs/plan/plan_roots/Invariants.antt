@@ -1,6 +1,7 @@
 use Rattle.std.proofs.Common.{◌≡◌, ◌≤◌, [], length, take, drop}
-use Rattle.root_anchor.specs.Keeping.{IsPlanning, keys_of_roots, marks_of}
-use Rattle.root_anchor.specs.Rebuilding.{Shares, types_of, types_of_roots}
+use Rattle.root_anchor.specs.Keeping.{keys_of_roots}
+use Rattle.root_anchor.specs.inside.Keeping.{IsPlanning, marks_of}
+use Rattle.root_anchor.specs.inside.Rebuilding.{Shares, types_of, types_of_roots}
 use Rattle.root_anchor.proofs.plan.plan_roots.Given as goal
 
 -- the roots from `left` on are planned

@@ -2,7 +2,7 @@ use Rattle.std.proofs.Common.{sym, subst}
 use Rattle.std.proofs.lemmas.Result.{err_from_is_err_and}
 use Rattle.anchor_elements.specs.Elements.{HasSegment}
 use Rattle.anchor_elements.specs.Puts.{PutsSegment}
-use Rattle.root_anchor.specs.Finding.{says_of}
+use Rattle.root_anchor.specs.inside.Finding.{says_of}
 use Rattle.root_anchor.proofs.AloneLemmas.{roots_differ_have}
 use Rattle.root_anchor.proofs.FindingLemmas.{found_there}
 use Rattle.root_anchor.proofs.rewriting.set_alone.Goals as goal

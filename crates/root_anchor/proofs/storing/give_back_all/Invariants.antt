@@ -1,8 +1,8 @@
 use Rattle.std.proofs.Common.{◌≡◌, ℕ, [], take}
 use Rattle.ci_space.specs.Calls.{GoesOn}
 use Rattle.root_anchor.specs.Faults.{ComesTo}
-use Rattle.root_anchor.specs.Standing.{places_of}
-use Rattle.root_anchor.specs.Rebuilding.{Exchanges, AreGivable}
+use Rattle.root_anchor.specs.inside.Standing.{places_of}
+use Rattle.root_anchor.specs.inside.Rebuilding.{Exchanges, AreGivable}
 use Rattle.root_anchor.proofs.storing.give_back_all.Given as goal
 
 -- so many of the elements are given back

@@ -1,7 +1,7 @@
 use Rattle.std.proofs.Common.{All, [], sym, subst}
 use Rattle.std.proofs.lemmas.Result.{err_from_is_err_and}
 use Rattle.ci_overflow.proofs.Joins.{on_ok-map}
-use Rattle.root_anchor.specs.Rebuilding.{IsDirect}
+use Rattle.root_anchor.specs.inside.Rebuilding.{IsDirect}
 use Rattle.root_anchor.proofs.ComingLemmas.{fault-later}
 use Rattle.root_anchor.proofs.Directs.{roots-direct}
 use Rattle.root_anchor.proofs.Exits.{same_fault}

@@ -4,9 +4,10 @@ use Rattle.std.proofs.lemmas.Result.{err_from_is_err_and}
 use Rattle.ci_overflow.specs.Lists.{IsInOrder}
 use Rattle.ci_overflow.proofs.Joins.{on_ok-map}
 use Rattle.root_anchor.specs.Chains.{IsChain}
-use Rattle.root_anchor.specs.Keeping.{keys_of_roots, marks_of}
-use Rattle.root_anchor.specs.Rebuilding.{ArePlaced, met_after, reserved}
-use Rattle.root_anchor.specs.Standing.{places_of}
+use Rattle.root_anchor.specs.Keeping.{keys_of_roots}
+use Rattle.root_anchor.specs.inside.Keeping.{marks_of}
+use Rattle.root_anchor.specs.inside.Rebuilding.{ArePlaced, met_after, reserved}
+use Rattle.root_anchor.specs.inside.Standing.{places_of}
 use Rattle.root_anchor.specs.declared.plan.Planned.{Planned}
 use Rattle.root_anchor.specs.declared.standing.Standing.{Standing}
 use Rattle.root_anchor.proofs.KeyLemmas.{chain-keys, have-keys, keeps-on-ok, kept-placed, kept-reserved, met-reverse}

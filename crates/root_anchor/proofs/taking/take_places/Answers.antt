@@ -5,7 +5,7 @@ use Rattle.ci_space.proofs.Going.{goes-itself}
 use Rattle.ci_overflow.proofs.Going.{goes_on_joined}
 use Rattle.ci_overflow.proofs.FaultLemmas.{in-order-sound}
 use Rattle.root_anchor.specs.Faults.{as_it_is}
-use Rattle.root_anchor.specs.Rebuilding.{IsTaking}
+use Rattle.root_anchor.specs.inside.Rebuilding.{IsTaking}
 use Rattle.root_anchor.proofs.ComingLemmas.{comes-joined, fault-later, fault-now}
 use Rattle.root_anchor.proofs.Exits.{same_fault}
 use Rattle.root_anchor.proofs.Growing.{same-types}

@@ -4,7 +4,7 @@ use Rattle.ci_overflow.specs.Known.{HasSeen}
 use Rattle.ci_overflow.specs.Places.{uow_of}
 use Rattle.anchor_elements.specs.Elements.{Pointer}
 use Rattle.root_anchor.specs.Faults.{ComesTo}
-use Rattle.root_anchor.specs.Rebuilding.{ArePlaced, AreReserved, IsDirect, IsTaking, types_of}
+use Rattle.root_anchor.specs.inside.Rebuilding.{ArePlaced, AreReserved, IsDirect, IsTaking, types_of}
 use Rattle.root_anchor.proofs.taking.take_places.Given as goal
 
 -- the last segments of the plan have places

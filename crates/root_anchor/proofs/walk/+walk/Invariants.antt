@@ -1,8 +1,9 @@
 use Rattle.std.proofs.Common.{◌≡◌, ◌+◌, ◌-◌, ◌*◌, ◌++◌, true, List, drop, length}
 use Rattle.fp_model.specs.declared.database.Node.{Node}
 use Rattle.anchor_elements.specs.Reading.{types_of, pointers_of}
-use Rattle.root_anchor.specs.Stored.{row_has_form, rows_have_form}
-use Rattle.root_anchor.specs.Walking.{met_of, WalksOn, AllStand, IsLook, IsAlong, IsAmong}
+use Rattle.root_anchor.specs.Stored.{rows_have_form}
+use Rattle.root_anchor.specs.inside.Stored.{row_has_form}
+use Rattle.root_anchor.specs.inside.Walking.{met_of, WalksOn, AllStand, IsLook, IsAlong, IsAmong}
 use Rattle.root_anchor.proofs.walk.+walk.Given as goal
 
 -- a child's type has a greater number

@@ -1,6 +1,6 @@
 use Rattle.std.proofs.Common.{◌≡◌, ◌-◌, ◌*◌, true, length}
 use Rattle.root_anchor.specs.Stored.{are_storable}
-use Rattle.root_anchor.specs.Walking.{met_of, WalksOn, AllStand, IsLook, IsAlongRoots}
+use Rattle.root_anchor.specs.inside.Walking.{met_of, WalksOn, AllStand, IsLook, IsAlongRoots}
 use Rattle.root_anchor.proofs.walk.roots.Given as goal
 
 -- the roots so far, and what the rest gives

@@ -1,5 +1,5 @@
 use Rattle.std.proofs.Common.{◌≤◌, ◌-◌, ◌+◌, ◌*◌, length}
-use Rattle.root_changes.specs.Comparing.{TellsSoFar}
+use Rattle.root_changes.specs.inside.Comparing.{TellsSoFar}
 use Rattle.root_changes.specs.Differing.{NodesDiffer, RowDiffers}
 use Rattle.root_changes.proofs.differing.+compares.Given as goal
 

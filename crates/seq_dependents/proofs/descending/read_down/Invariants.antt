@@ -2,7 +2,8 @@ use Rattle.std.proofs.Common.{◌≡◌, ◌++◌, List, IfSome, length}
 use Rattle.ci_space.specs.Calls.{GoesOn}
 use Rattle.ci_space.specs.Interval.{kind_of}
 use Rattle.fp_model.specs.declared.database.SeqItem.{SeqItem}
-use Rattle.seq_dependents.specs.Down.{IsDown, IsRead}
+use Rattle.seq_dependents.specs.Down.{IsDown}
+use Rattle.seq_dependents.specs.inside.Down.{IsRead}
 use Rattle.seq_dependents.specs.Slots.{part_of}
 use Rattle.seq_dependents.proofs.descending.read_down.Given as goal
 

@@ -3,7 +3,7 @@ use Rattle.fp_audit.specs.Standing.{IsAt, rules_in}
 use Rattle.fp_model.specs.declared.log.Entry.{Entry}
 use Rattle.fp_restart.proofs.Groups.{stands_further}
 use Rattle.log_groups.specs.Reads.{HasGroup}
-use Rattle.site_audit.specs.Judged.{GoesOnTo}
+use Rattle.site_audit.specs.inside.Judged.{GoesOnTo}
 use Rattle.site_audit.proofs.auditing.audit_group.Goals as goal
 
 -- a site that tells what it holds has no group that goes nowhere

@@ -6,7 +6,7 @@ use Rattle.fp_model.specs.Rules.{Rules}
 use Rattle.fp_site.proofs.Runs.{elapses_none, stays_then}
 use Rattle.fp_restart.proofs.Groups.{read_at_most, read_inside}
 use Rattle.log_groups.specs.Reads.{HasGroup}
-use Rattle.site_audit.specs.Judged.{IsOneRead}
+use Rattle.site_audit.specs.inside.Judged.{IsOneRead}
 use Rattle.site_audit.proofs.Judging.{are_held_more, are_held_none, are_read_more, are_read_none}
 use Rattle.site_audit.proofs.auditing.audit_groups.Goals as goal
 

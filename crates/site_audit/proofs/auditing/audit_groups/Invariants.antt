@@ -3,7 +3,7 @@ use Rattle.fp_audit.specs.Standing.{IsAt, rules_in}
 use Rattle.fp_model.specs.History.{beginning}
 use Rattle.fp_site.specs.Disk.{Stays}
 use Rattle.log_groups.specs.Reads.{ReadsOnlyLog}
-use Rattle.site_audit.specs.Judged.{AreHeld, AreRead}
+use Rattle.site_audit.specs.inside.Judged.{AreHeld, AreRead}
 use Rattle.site_texts.specs.Sent.{GoesOn}
 use Rattle.site_audit.proofs.auditing.audit_groups.Given as goal
 

@@ -1,7 +1,7 @@
 use Rattle.std.proofs.Common.{refl, sym, subst, ℕ}
 use Rattle.std.specs.Prelude.{IfOk, Option, Some}
 use Rattle.fp_audit.specs.Standing.{IsAt, rules_in}
-use Rattle.site_audit.specs.Judged.{GoesOnTo}
+use Rattle.site_audit.specs.inside.Judged.{GoesOnTo}
 use Rattle.site_audit.proofs.Judging.{ok_goes_on}
 use Rattle.site_audit.proofs.auditing.first_illegal.Goals as goal
 

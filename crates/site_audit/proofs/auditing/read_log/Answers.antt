@@ -11,7 +11,7 @@ use Rattle.fp_model.specs.State.{start}
 use Rattle.fp_site.proofs.Runs.{stays_then}
 use Rattle.log_groups.specs.Images.{as_front, in_format}
 use Rattle.log_groups.proofs.Fronts.{same_gate}
-use Rattle.site_audit.specs.Judged.{AreBroken, AreRead}
+use Rattle.site_audit.specs.inside.Judged.{AreBroken, AreRead}
 use Rattle.site_audit.specs.Legal.{IsIllegalLog, IsLegalLog}
 use Rattle.site_audit.specs.declared.auditing.Place.{Place}
 use Rattle.site_audit.proofs.Judging.{both_ok}

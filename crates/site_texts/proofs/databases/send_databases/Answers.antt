@@ -2,7 +2,8 @@ use Rattle.std.proofs.Common.{◌≡◌, ◌∙◌, ◌++◌, ◌+◌, ◌<◌, 
 use Rattle.fp_model.specs.declared.database.Msdb.{Msdb}
 use Rattle.fp_show.specs.DbText.{each_text, msdb_text}
 use Rattle.fp_show.proofs.Pairs.{each_done}
-use Rattle.site_texts.specs.Sent.{HasSent, HasSentPart, IsTold}
+use Rattle.site_texts.specs.Sent.{HasSent, HasSentPart}
+use Rattle.site_texts.specs.inside.Sent.{IsTold}
 use Rattle.site_texts.specs.Texts.{msdbs_text}
 use Rattle.site_texts.proofs.Lines.{database_next}
 use Rattle.site_texts.proofs.Told.{part_whole, told_all, told_as, told_last_part, told_next, told_next_part}

@@ -1,7 +1,8 @@
 use Rattle.std.proofs.Common.{◌≡◌, drop}
 use Rattle.fp_show.specs.DbText.{each_text, msdb_text}
 use Rattle.fp_site.specs.Site.{ReadsNothing}
-use Rattle.site_texts.specs.Sent.{GoesOn, IsTold}
+use Rattle.site_texts.specs.Sent.{GoesOn}
+use Rattle.site_texts.specs.inside.Sent.{IsTold}
 use Rattle.site_texts.specs.Texts.{msdbs_text}
 use Rattle.site_texts.proofs.databases.send_databases.Given as goal
 

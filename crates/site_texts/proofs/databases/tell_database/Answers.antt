@@ -7,7 +7,8 @@ use Rattle.std.proofs.lemmas.List.Concat.{flat_map-cons}
 use Rattle.std.proofs.lemmas.Option.{slice_get-get_or}
 use Rattle.fp_model.specs.declared.database.Msdb.{Msdb}
 use Rattle.fp_show.specs.DbText.{msdb_head, msdb_line, msdb_text}
-use Rattle.site_texts.specs.Sent.{HasSentPart, IsTold}
+use Rattle.site_texts.specs.Sent.{HasSentPart}
+use Rattle.site_texts.specs.inside.Sent.{IsTold}
 use Rattle.site_texts.proofs.Lines.{has_database, is_there, told_begins, told_line}
 use Rattle.site_texts.proofs.Told.{told_as, told_next, told_next_part, told_none, told_part}
 use Rattle.site_texts.proofs.databases.tell_database.Given as given

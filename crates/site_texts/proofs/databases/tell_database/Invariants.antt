@@ -4,7 +4,8 @@ use Rattle.std.specs.Prelude.{Some, slice_get}
 use Rattle.fp_model.specs.declared.database.Msdb.{Msdb}
 use Rattle.fp_show.specs.DbText.{msdb_line, msdb_text}
 use Rattle.fp_site.specs.Site.{ReadsNothing}
-use Rattle.site_texts.specs.Sent.{GoesOn, IsTold}
+use Rattle.site_texts.specs.Sent.{GoesOn}
+use Rattle.site_texts.specs.inside.Sent.{IsTold}
 use Rattle.site_texts.proofs.databases.tell_database.Given as goal
 
 -- the lines of the segments from this one on are to come

@@ -6,7 +6,7 @@ use Rattle.fp_model.specs.Groups.{Groups, Reads}
 use Rattle.fp_model.specs.LogText.{first_gate, front_text}
 use Rattle.log_groups.specs.Images.{BeginsFor, as_front, in_format}
 use Rattle.log_groups.proofs.Fronts.{same_gate}
-use Rattle.site_texts.specs.Groups.{AreAllSent, SendsFrom}
+use Rattle.site_texts.specs.inside.Groups.{AreAllSent, SendsFrom}
 use Rattle.site_texts.specs.Texts.{IsLogSent, IsSentToDamage, SendsGroups}
 use Rattle.site_texts.proofs.Whole.{none_sent, whole_sent, part_sent, damage_sent}
 use Rattle.site_texts.proofs.groups.log.Given as given

@@ -2,7 +2,7 @@ use Rattle.std.proofs.Common.{◌≡◌, ◌+◌, ◌∙◌, ap, sym, arith, rul
 use Rattle.std.specs.Prelude.{slice_index}
 use Rattle.log_groups.specs.Reads.{HasGroup}
 use Rattle.fp_restart.proofs.Groups.{read_at_most, read_inside}
-use Rattle.site_texts.specs.Groups.{IsOneSent}
+use Rattle.site_texts.specs.inside.Groups.{IsOneSent}
 use Rattle.site_texts.proofs.Shown.{all_sent, are_sent_more, are_sent_none, sends_more, sent_to_damage}
 use Rattle.site_texts.proofs.groups.send_groups.Given as given
 use Rattle.site_texts.proofs.groups.send_groups.Goals as goal

@@ -1,6 +1,6 @@
 use Rattle.std.proofs.Common.{◌≡◌, ◌+◌, ◌-◌, ◌^◌, ◌≤◌}
 use Rattle.log_groups.specs.Reads.{ReadsOnlyLog}
-use Rattle.site_texts.specs.Groups.{AreSent}
+use Rattle.site_texts.specs.inside.Groups.{AreSent}
 use Rattle.site_texts.specs.Sent.{GoesOn}
 use Rattle.site_texts.proofs.groups.send_groups.Given as goal
 

@@ -1,7 +1,7 @@
 use Rattle.std.proofs.Common.{◌∙◌, sym, subst, ◌∷◌, [], arith}
 use Rattle.std.proofs.lemmas.List.{append-nil}
 use Rattle.std.proofs.lemmas.Result.{err_from_is_err_and}
-use Rattle.txn_lang.specs.Building.{IsBuilt, context_of}
+use Rattle.txn_lang.specs.inside.Building.{IsBuilt, context_of}
 use Rattle.txn_lang.proofs.LineLemmas.{said_reads, line_reads, line_skips, line_foreign, line_fails}
 use Rattle.txn_lang.proofs.reader.read_line.Goals as goal
 

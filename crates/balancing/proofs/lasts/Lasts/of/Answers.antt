@@ -1,7 +1,8 @@
 use Rattle.std.proofs.Common.{◌≡◌, ◌<◌, ◌∙◌, ap, sym, subst, Some, length, arith}
 use Rattle.std.specs.Prelude.{slice_get}
 use Rattle.fp_model.specs.Lasts.{last_of}
-use Rattle.balancing.specs.Numbered.{IsPlaced, as_last, lasts_in}
+use Rattle.balancing.specs.Numbered.{as_last, lasts_in}
+use Rattle.balancing.specs.inside.Numbered.{IsPlaced}
 use Rattle.balancing.specs.declared.lasts.Place.TheVariants.{Stands, Lacks}
 use Rattle.key_order.proofs.Ascending.{IsAscending, found_at, found_there, some_is}
 use Rattle.balancing.proofs.LastLemmas.{by_parts, key, there}

@@ -1,6 +1,7 @@
 use Rattle.std.proofs.Common.{◌≡◌, ◌∙◌, ap, sym, subst, arith, length}
 use Rattle.fp_model.specs.Lasts.{with_last}
-use Rattle.balancing.specs.Numbered.{IsPlaced, lasts_in}
+use Rattle.balancing.specs.Numbered.{lasts_in}
+use Rattle.balancing.specs.inside.Numbered.{IsPlaced}
 use Rattle.balancing.specs.declared.lasts.Place.TheVariants.{Stands, Lacks}
 use Rattle.key_order.proofs.Ascending.{IsAscending, put_over, put_in, with_one_ascends}
 use Rattle.balancing.proofs.LastLemmas.{key, lasts_length}

@@ -1,7 +1,7 @@
 use Rattle.std.proofs.Common.{◌≡◌, ◌==◌, ◌∙◌, Some, ap, sym, ℕ}
 use Rattle.std.specs.Prelude.{if◌then◌else◌}
 use Rattle.ci_locks.specs.Holdings.{held_by, mode_of}
-use Rattle.ci_locks.specs.Standing.{raised}
+use Rattle.ci_locks.specs.inside.Standing.{raised}
 use Rattle.ci_locks.proofs.Modes.{gain_held, gain_modes}
 use Rattle.ci_locks.proofs.holding.Holdings.gain.Goals as goal
 use Rattle.ci_locks.proofs.holding.Holdings.gain.Goals.{In_ok-put}

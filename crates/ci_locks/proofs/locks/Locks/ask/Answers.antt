@@ -2,7 +2,7 @@ use Rattle.std.proofs.Common.{arith, ◌≡◌, ◌∙◌, ◌≤◌, ℕ, List,
 use Rattle.std.specs.Prelude.{Contains, Err, IfOk, Ok, OnErr, Result}
 use Rattle.fp_model.specs.Waiting.{Lock, waits, with_request}
 use Rattle.ci_locks.specs.Cycles.{IsFirstCycle, first_cycle}
-use Rattle.ci_locks.specs.Regions.{standing_of}
+use Rattle.ci_locks.specs.inside.Regions.{standing_of}
 use Rattle.ci_locks.specs.Standing.{IfCycle, IsGrant, Shows, locks_after, requests_after}
 use Rattle.ci_locks.specs.declared.locks.Grant.{Grant}
 use Rattle.ci_locks.specs.declared.locks.Grant.TheVariants as grant

@@ -1,5 +1,5 @@
 use Rattle.std.proofs.Common.{[], ◌∙◌}
-use Rattle.ci_locks.specs.Regions.{standing_of}
+use Rattle.ci_locks.specs.inside.Regions.{standing_of}
 use Rattle.ci_locks.proofs.Bridge.{rows_long, shows_rows}
 use Rattle.ci_locks.proofs.Shown.{nothing}
 use Rattle.ci_locks.proofs.locks.Locks.new.Goals as goal

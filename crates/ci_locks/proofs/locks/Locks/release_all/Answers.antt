@@ -1,5 +1,5 @@
 use Rattle.std.proofs.Common.{arith, ◌∙◌, sym}
-use Rattle.ci_locks.specs.Regions.{standing_of}
+use Rattle.ci_locks.specs.inside.Regions.{standing_of}
 use Rattle.ci_locks.proofs.Bridge.{long_rows, rows_long, shows_code, shows_rows}
 use Rattle.ci_locks.proofs.Shown.{freed}
 use Rattle.ci_locks.proofs.locks.Locks.release_all.Goals as goal

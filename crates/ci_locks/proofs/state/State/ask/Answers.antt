@@ -4,10 +4,12 @@ use Rattle.std.proofs.lemmas.List.Elements.{filter_agree}
 use Rattle.fp_model.specs.State.{numbers_up}
 use Rattle.fp_model.specs.declared.calls.Resource.{Resource}
 use Rattle.fp_model.specs.Waiting.{Lock, with_request, without_region}
-use Rattle.ci_locks.specs.Graph.{Along, is_in, leads, next, set_at}
-use Rattle.ci_locks.specs.Regions.{standing_of}
+use Rattle.ci_locks.specs.Graph.{is_in}
+use Rattle.ci_locks.specs.inside.Graph.{Along, leads, next, set_at}
+use Rattle.ci_locks.specs.inside.Regions.{standing_of}
 use Rattle.ci_locks.specs.Sets.{has}
-use Rattle.ci_locks.specs.Standing.{Asks, Shows, Standing, asking, blocking, in_way}
+use Rattle.ci_locks.specs.Standing.{Shows, Standing}
+use Rattle.ci_locks.specs.inside.Standing.{Asks, asking, blocking, in_way}
 use Rattle.ci_locks.specs.Table.{lock_of}
 use Rattle.ci_locks.specs.declared.state.Region.{Region}
 use Rattle.ci_locks.proofs.Answered.{along_of, asked, closes, gains, open_way, unasked, waits_for}

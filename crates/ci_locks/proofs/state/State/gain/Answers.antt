@@ -7,7 +7,8 @@ use Rattle.ci_locks.specs.declared.state.News.TheVariants as news
 use Rattle.ci_locks.specs.declared.state.Region.{Region}
 use Rattle.ci_locks.specs.declared.state.State.{State}
 use Rattle.std.proofs.lemmas.List.{with_items_is}
-use Rattle.ci_locks.specs.Regions.{AreTold, region_at}
+use Rattle.ci_locks.specs.Regions.{region_at}
+use Rattle.ci_locks.specs.inside.Regions.{AreTold}
 use Rattle.ci_locks.proofs.Regions.{at_old}
 use Rattle.ci_locks.proofs.Sounds.{contains_end, contains_more, gains_now, gains_sound, lists_sound, lists_stand}
 use Rattle.ci_locks.proofs.state.State.gain.Goals as goal

@@ -1,5 +1,6 @@
 use Rattle.std.proofs.Common.{◌≡◌, Some, None, rules, sym, subst, ◌∙◌, ap, arith}
-use Rattle.ci_pool.specs.Changes.{IsAscending, least, newest_of, first_by, waits_up_to}
+use Rattle.ci_pool.specs.Changes.{IsAscending, least, newest_of}
+use Rattle.ci_pool.specs.inside.Changes.{first_by, waits_up_to}
 use Rattle.ci_pool.specs.Held.{Held}
 use Rattle.ci_pool.proofs.Searches.{none_is_sealed, oldest_sealed_is, one_is_up_to}
 use Rattle.ci_pool.proofs.pool.Pool.oldest_sealed.Goals as goal

@@ -1,5 +1,6 @@
 use Rattle.std.proofs.Common.{◌≡◌, Some, None, rules, sym, subst, ◌∙◌, ap, arith}
-use Rattle.ci_pool.specs.Changes.{IsAscending, least, oldest_of, first_by, may_pay}
+use Rattle.ci_pool.specs.Changes.{IsAscending, least, oldest_of}
+use Rattle.ci_pool.specs.inside.Changes.{first_by, may_pay}
 use Rattle.ci_pool.specs.Held.{Held, IsFirstOwed}
 use Rattle.ci_pool.proofs.Searches.{none_is_owed, first_owed_is, unsealed_is}
 use Rattle.ci_pool.proofs.pool.Pool.owed.Goals as goal

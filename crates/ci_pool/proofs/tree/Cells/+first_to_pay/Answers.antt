@@ -1,5 +1,5 @@
 use Rattle.std.proofs.Common.{◌≡◌, ◌∷◌, Some, None, true, false, refl, sym, ◌∙◌, ap, arith}
-use Rattle.ci_pool.specs.Changes.{first_by, may_pay}
+use Rattle.ci_pool.specs.inside.Changes.{first_by, may_pay}
 use Rattle.ci_pool.specs.Trees.{below}
 use Rattle.ci_pool.proofs.Lists.{first_right, first_found, none_to_pay, none_sealed}
 use Rattle.std.specs.Prelude.{option_copied}

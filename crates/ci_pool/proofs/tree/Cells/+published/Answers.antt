@@ -1,6 +1,7 @@
 use Rattle.std.proofs.Common.{◌≡◌, ◌∷◌, ◌++◌, false, sym, subst, ◌∙◌, ap}
 use Rattle.ci_pool.specs.declared.tree.Fork.{Fork}
-use Rattle.ci_pool.specs.Changes.{IsAscending, all_published, any_staged}
+use Rattle.ci_pool.specs.Changes.{IsAscending, any_staged}
+use Rattle.ci_pool.specs.inside.Changes.{all_published}
 use Rattle.ci_pool.specs.Trees.{below}
 use Rattle.ci_pool.proofs.Lists.{published_append, published_none, ascending_published}
 use Rattle.ci_pool.proofs.Forks.{at_fork}

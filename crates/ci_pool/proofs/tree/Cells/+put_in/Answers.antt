@@ -2,7 +2,8 @@ use Rattle.std.proofs.Common.{◌≡◌, ℕ, ◌∷◌, ◌++◌, None, true, f
 use Rattle.std.specs.Prelude.{IsTrue}
 use Rattle.ci_pool.specs.declared.tree.Fork.{Fork}
 use Rattle.ci_pool.specs.Cells.{cell_at, comes_before}
-use Rattle.ci_pool.specs.Changes.{IsAscending, AllCells, with_cell}
+use Rattle.ci_pool.specs.Changes.{IsAscending, AllCells}
+use Rattle.ci_pool.specs.inside.Changes.{with_cell}
 use Rattle.ci_pool.proofs.Lists.{none_right, none_left, none_this, ascending_with, ascending_join, ascending_front, ascending_back, with_between, with_behind, with_before}
 use Rattle.ci_pool.proofs.Forks.{at_fork}
 use Rattle.ci_pool.proofs.tree.Cells.+put_in.Goals as goal

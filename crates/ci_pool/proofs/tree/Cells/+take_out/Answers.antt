@@ -1,7 +1,8 @@
 use Rattle.std.proofs.Common.{◌≡◌, ◌∷◌, ◌++◌, Some, true, false, sym, subst, ◌∙◌, ap}
 use Rattle.ci_pool.specs.declared.tree.Fork.{Fork}
 use Rattle.ci_pool.specs.Cells.{cell_at, comes_before, is_of}
-use Rattle.ci_pool.specs.Changes.{IsAscending, without}
+use Rattle.ci_pool.specs.Changes.{IsAscending}
+use Rattle.ci_pool.specs.inside.Changes.{without}
 use Rattle.ci_pool.proofs.Lists.{ascending_without, without_here, without_behind, without_before, found_here, found_behind, found_before, behind_else}
 use Rattle.ci_pool.proofs.Forks.{at_fork}
 use Rattle.ci_pool.proofs.tree.Cells.+take_out.Goals as goal

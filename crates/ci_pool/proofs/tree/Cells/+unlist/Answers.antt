@@ -1,7 +1,8 @@
 use Rattle.std.proofs.Common.{◌≡◌, false, refl, sym, ◌∙◌, ap}
 use Rattle.lru.specs.LruCache.{lru_cache}
 use Rattle.ci_pool.specs.declared.tree.Fork.{Fork}
-use Rattle.ci_pool.specs.Changes.{any_staged, unlisted, unlisted_one}
+use Rattle.ci_pool.specs.Changes.{any_staged}
+use Rattle.ci_pool.specs.inside.Changes.{unlisted, unlisted_one}
 use Rattle.ci_pool.specs.Trees.{below}
 use Rattle.ci_pool.proofs.Forks.{at_fork}
 use Rattle.ci_pool.proofs.Lookups.{unlisted_append, unlisted_none}

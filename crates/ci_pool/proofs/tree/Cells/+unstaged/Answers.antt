@@ -1,6 +1,7 @@
 use Rattle.std.proofs.Common.{◌≡◌, ◌∷◌, ◌++◌, true, false, refl, sym, subst, ◌∙◌, ap}
 use Rattle.ci_pool.specs.declared.tree.Fork.{Fork}
-use Rattle.ci_pool.specs.Changes.{IsAscending, all_unstaged, unstaged, any_staged, is_only_staged}
+use Rattle.ci_pool.specs.Changes.{IsAscending, any_staged}
+use Rattle.ci_pool.specs.inside.Changes.{all_unstaged, unstaged, is_only_staged}
 use Rattle.ci_pool.specs.Trees.{below}
 use Rattle.ci_pool.proofs.Lists.{unstaged_append, unstaged_none, ascending_unstaged}
 use Rattle.ci_pool.proofs.Forks.{at_fork}

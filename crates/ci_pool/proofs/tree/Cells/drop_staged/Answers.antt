@@ -1,6 +1,6 @@
 use Rattle.std.proofs.Common.{◌∙◌, ap}
 use Rattle.ci_pool.specs.Cells.{cell_at}
-use Rattle.ci_pool.specs.Changes.{all_unstaged}
+use Rattle.ci_pool.specs.inside.Changes.{all_unstaged}
 use Rattle.ci_pool.proofs.Lookups.{at_unstaged}
 use Rattle.ci_pool.proofs.tree.Cells.drop_staged.Goals as goal
 

@@ -1,6 +1,6 @@
 use Rattle.std.proofs.Common.{◌∙◌, ap}
 use Rattle.ci_pool.specs.Cells.{cell_at}
-use Rattle.ci_pool.specs.Changes.{all_published}
+use Rattle.ci_pool.specs.inside.Changes.{all_published}
 use Rattle.ci_pool.proofs.Lookups.{at_published}
 use Rattle.ci_pool.proofs.tree.Cells.publish.Goals as goal
 

@@ -2,8 +2,9 @@ use Rattle.std.proofs.Common.{◌≡◌, refl, sym, ◌∙◌, ap, subst}
 use Rattle.std.specs.Prelude.{option_map}
 use Rattle.ci_pool.specs.declared.cell.Cell.{Cell}
 use Rattle.ci_pool.specs.Cells.{cell_at}
-use Rattle.ci_pool.specs.Changes.{without, with_cell, staged_cell, IsAscending}
-use Rattle.ci_pool.specs.Trees.{cell_of}
+use Rattle.ci_pool.specs.Changes.{IsAscending}
+use Rattle.ci_pool.specs.inside.Changes.{without, with_cell, staged_cell}
+use Rattle.ci_pool.specs.inside.Trees.{cell_of}
 use Rattle.ci_pool.proofs.Lists.{without_none}
 use Rattle.ci_pool.proofs.Lookups.{gone, staged_key, at_staged}
 use Rattle.ci_pool.proofs.tree.Cells.stage.Goals as goal

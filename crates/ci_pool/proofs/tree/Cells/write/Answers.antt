@@ -4,8 +4,9 @@ use Rattle.ci_pool.specs.declared.cell.Cell.{Cell}
 use Rattle.ci_pool.specs.Cells.{cell_at, pending_number}
 use Rattle.ci_pool.specs.Held.{waiting_of}
 use Rattle.ci_pool.proofs.Counts.{number_written}
-use Rattle.ci_pool.specs.Changes.{without, with_cell, after_write, is_staged, IsAscending}
-use Rattle.ci_pool.specs.Trees.{cell_of}
+use Rattle.ci_pool.specs.Changes.{is_staged, IsAscending}
+use Rattle.ci_pool.specs.inside.Changes.{without, with_cell, after_write}
+use Rattle.ci_pool.specs.inside.Trees.{cell_of}
 use Rattle.ci_pool.proofs.Lists.{of_same}
 use Rattle.ci_pool.proofs.Lookups.{of_found, gone, at_written, at_written_none}
 use Rattle.ci_pool.proofs.tree.Cells.write.Goals as goal

@@ -11,9 +11,11 @@ use Rattle.area_states.specs.declared.place.Place.{Place}
 use Rattle.ci_pool.specs.Held.{SameAtHand}
 use Rattle.area_staging.specs.Items.{is_imaged}
 use Rattle.area_staging.proofs.AtHand.{hand_of, hand_then}
-use Rattle.dedb_area.specs.Anchors.{AreInTime, ShowsAreas}
+use Rattle.dedb_area.specs.Anchors.{AreInTime}
+use Rattle.dedb_area.specs.inside.Anchors.{ShowsAreas}
 use Rattle.dedb_area.specs.Appending.{MayEnter, StagesInAreas}
-use Rattle.dedb_area.specs.Committing.{AreStagedUpTo, ConcernedAreAtHand, FitsCommit, IsBeginIn, IsFitItem, IsLeast, MayStage, OnlyChanges, StagesAll}
+use Rattle.dedb_area.specs.Committing.{ConcernedAreAtHand, FitsCommit, IsBeginIn, IsFitItem, IsLeast, MayStage, OnlyChanges}
+use Rattle.dedb_area.specs.inside.Committing.{AreStagedUpTo, StagesAll}
 use Rattle.dedb_area.specs.Standing.{AreasStand, Holding}
 use Rattle.dedb_area.proofs.AnchorLemmas.{shows}
 use Rattle.dedb_area.proofs.CommitLaws.{fills_first, fit_areas, for_committed, may_enter, none_full, one_segment}

@@ -3,8 +3,8 @@ use Rattle.fp_model.specs.DedbCalls.{type_of_path}
 use Rattle.fp_model.specs.Order.{is_sequential}
 use Rattle.fp_model.specs.declared.calls.Mode.TheVariants.{Exclusive}
 use Rattle.fp_model.specs.declared.definitions.SegDef.{SegDef}
-use Rattle.dedb_calls.specs.Calls.{is_locked}
-use Rattle.dedb_calls.specs.Edits.{IsHeldSo}
+use Rattle.dedb_calls.specs.inside.Calls.{is_locked}
+use Rattle.dedb_calls.specs.inside.Edits.{IsHeldSo}
 use Rattle.dedb_calls.specs.Progress.{held_in}
 use Rattle.dedb_calls.proofs.get.Database.choose.Goals as goal
 

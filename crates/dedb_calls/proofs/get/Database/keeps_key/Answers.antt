@@ -1,7 +1,7 @@
 use Rattle.std.proofs.Common.{◌≡◌, ◌∙◌, List, ℕ, Some, None, sym, ap}
 use Rattle.fp_model.specs.Order.{Place}
 use Rattle.dli_tree.specs.Paths.{steps_of}
-use Rattle.dedb_calls.specs.Edits.{fits_key}
+use Rattle.dedb_calls.specs.inside.Edits.{fits_key}
 use Rattle.dedb_calls.specs.Progress.{held_in}
 use Rattle.dedb_calls.proofs.AnchorLemmas.{some_is}
 use Rattle.dedb_calls.proofs.get.Database.keeps_key.Goals as goal

@@ -4,7 +4,7 @@ use Rattle.fp_model.specs.DedbCalls.{anchors_searched, begins_behind, lock_of, r
 use Rattle.fp_model.specs.declared.calls.Resource.TheVariants.{Anchor}
 use Rattle.fp_model.specs.Workspace.{DedbPosition}
 use Rattle.dedb_calls.specs.Progress.{position_in}
-use Rattle.dedb_calls.specs.Searches.{numbers_in}
+use Rattle.dedb_calls.specs.inside.Searches.{numbers_in}
 use Rattle.dedb_calls.proofs.SearchLemmas.{if_ok}
 use Rattle.dedb_calls.proofs.SeenLemmas.{in_order}
 use Rattle.dedb_calls.proofs.GetLemmas.{renamed}

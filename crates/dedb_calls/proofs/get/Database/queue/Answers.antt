@@ -1,6 +1,7 @@
 use Rattle.std.proofs.Common.{◌∙◌, List, ℕ, ap, false}
-use Rattle.dedb_calls.specs.Inserts.{with_queued}
-use Rattle.dedb_calls.specs.Progress.{DedbProgress, position_in, with_position_at}
+use Rattle.dedb_calls.specs.inside.Inserts.{with_queued}
+use Rattle.dedb_calls.specs.Progress.{DedbProgress, position_in}
+use Rattle.dedb_calls.specs.inside.Progress.{with_position_at}
 use Rattle.dedb_calls.proofs.get.Database.queue.Goals as goal
 
 pub returns-clause-work : goal.returns-clause-work

@@ -2,7 +2,7 @@ use Rattle.std.proofs.Common.{◌∙◌, ap, List}
 use Rattle.fp_model.specs.DedbCalls.{are_get_arguments}
 use Rattle.fp_model.specs.declared.calls.Ssa.{Ssa}
 use Rattle.fp_model.specs.Workspace.{DedbPosition}
-use Rattle.dedb_calls.specs.Calls.{lacks_parent_at}
+use Rattle.dedb_calls.specs.inside.Calls.{lacks_parent_at}
 use Rattle.dedb_calls.proofs.GetLemmas.{refused_args, refused_nothing, refused_parent}
 use Rattle.dedb_calls.proofs.get.Database.refusal.Goals as goal
 

@@ -3,7 +3,7 @@ use Rattle.std.specs.Prelude.{IsTrue}
 use Rattle.std.specs.Option.{option_map_or}
 use Rattle.fp_model.specs.MsdbCalls.{is_put_or_dropped}
 use Rattle.fp_model.specs.declared.calls.Resource.TheVariants.{Segment}
-use Rattle.dli_calls.specs.Replies.{key_to_change}
+use Rattle.dli_calls.specs.inside.Replies.{key_to_change}
 use Rattle.dli_calls.proofs.database.Database.is_changed.Goals as goal
 
 -- none of the keys is one that there may be

@@ -2,7 +2,8 @@ use Rattle.std.proofs.Common.{sym, subst, ℕ}
 use Rattle.fp_model.specs.History.{with_entry}
 use Rattle.fp_model.specs.Lasts.{Last}
 use Rattle.std.specs.Prelude.{Option}
-use Rattle.fp_audit.specs.Numbers.{AreKept, KnowsLines, with_used}
+use Rattle.fp_audit.specs.Numbers.{AreKept, KnowsLines}
+use Rattle.fp_audit.specs.inside.Numbers.{with_used}
 use Rattle.fp_audit.proofs.NumberLemmas.{knows_more}
 use Rattle.fp_audit.proofs.requests.Requests.learn.Goals as goal
 

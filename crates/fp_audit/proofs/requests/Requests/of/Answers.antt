@@ -1,7 +1,7 @@
 use Rattle.std.proofs.Common.{◌∙◌, ap, sym}
 use Rattle.std.specs.Prelude.{None, option_and_then, slice_get}
 use Rattle.fp_model.specs.Product.{by_script}
-use Rattle.fp_audit.specs.Judging.{refused_or}
+use Rattle.fp_audit.specs.inside.Judging.{refused_or}
 use Rattle.fp_model.specs.Lasts.{lasts_of}
 use Rattle.fp_audit.proofs.RequestLemmas.{asks, by_found, number_within}
 use Rattle.fp_audit.proofs.requests.Requests.of.Goals as goal

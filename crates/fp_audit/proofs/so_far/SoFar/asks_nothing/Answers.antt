@@ -1,6 +1,6 @@
 use Rattle.std.proofs.Common.{◌+◌, subst}
 use Rattle.past_replay.specs.States.{state_at}
-use Rattle.fp_audit.specs.Judging.{IsRequest, rules_by}
+use Rattle.fp_audit.specs.inside.Judging.{IsRequest, rules_by}
 use Rattle.fp_audit.proofs.Founds.{asks_so}
 use Rattle.fp_audit.proofs.StateLemmas.{stays_now}
 use Rattle.fp_audit.proofs.so_far.SoFar.asks_nothing.Goals as goal

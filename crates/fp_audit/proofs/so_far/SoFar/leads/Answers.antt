@@ -1,6 +1,6 @@
 use Rattle.std.proofs.Common.{◌+◌}
 use Rattle.past_replay.specs.States.{state_at}
-use Rattle.fp_audit.specs.Judging.{rules_by}
+use Rattle.fp_audit.specs.inside.Judging.{rules_by}
 use Rattle.fp_audit.proofs.Founds.{asks_leads, format_found, is_refused, purge_leads}
 use Rattle.fp_audit.proofs.StateLemmas.{keeps_same, next_ready, on_any, stays_now}
 use Rattle.fp_audit.proofs.so_far.SoFar.leads.Goals as goal

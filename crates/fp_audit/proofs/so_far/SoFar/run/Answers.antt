@@ -4,7 +4,7 @@ use Rattle.fp_model.specs.SerialHistory.{NeverFalls}
 use Rattle.past_segments.specs.Times.{Past}
 use Rattle.past_replay.specs.Ends.{with_next}
 use Rattle.past_replay.specs.States.{AreStatesOf, state_at}
-use Rattle.fp_audit.specs.Judging.{rules_by}
+use Rattle.fp_audit.specs.inside.Judging.{rules_by}
 use Rattle.fp_audit.proofs.Founds.{found_run}
 use Rattle.fp_audit.proofs.StateLemmas.{all_changed, notes_within}
 use Rattle.fp_audit.proofs.so_far.SoFar.run.Goals as goal

@@ -3,7 +3,7 @@ use Rattle.fp_model.specs.Entries.{MayStandAt}
 use Rattle.fp_model.specs.History.{states_of, with_entry}
 use Rattle.fp_model.specs.SerialHistory.{Leads}
 use Rattle.past_replay.specs.States.{AreStatesOf, state_at}
-use Rattle.fp_audit.specs.Judging.{Finds, rules_by}
+use Rattle.fp_audit.specs.inside.Judging.{Finds, rules_by}
 use Rattle.fp_audit.specs.Numbers.{KnowsLines}
 use Rattle.fp_audit.proofs.StateLemmas.{place_more, states_more}
 use Rattle.fp_audit.proofs.so_far.SoFar.take.Goals as goal

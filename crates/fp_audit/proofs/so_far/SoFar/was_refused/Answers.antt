@@ -1,5 +1,5 @@
 use Rattle.std.proofs.Common.{subst, arith}
-use Rattle.fp_audit.specs.Judging.{IsRequest, rules_by}
+use Rattle.fp_audit.specs.inside.Judging.{IsRequest, rules_by}
 use Rattle.fp_audit.proofs.StateLemmas.{stays_now}
 use Rattle.fp_audit.proofs.so_far.SoFar.was_refused.Goals as goal
 

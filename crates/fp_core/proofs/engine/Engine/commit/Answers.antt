@@ -19,7 +19,8 @@ use Rattle.sync_point.specs.Drafts.{IsEnd}
 use Rattle.sync_point.specs.Refusals.{refusal_room}
 use Rattle.fp_core.specs.declared.engine.Engine.{Engine}
 use Rattle.fp_core.specs.declared.engine.Region.TheVariants as regions
-use Rattle.fp_core.specs.Numbering.{last_told, with_used}
+use Rattle.fp_core.specs.Numbering.{last_told}
+use Rattle.fp_core.specs.inside.Numbering.{with_used}
 use Rattle.fp_core.specs.Relation.{StandsFor, owed_of}
 use Rattle.fp_core.specs.Turning.{AreItemsOf}
 use Rattle.fp_core.proofs.Commits.{at_work_is, at_work_still, committed, done_as, done_is, draft_at, ends_done, ends_so, reply_is_short}

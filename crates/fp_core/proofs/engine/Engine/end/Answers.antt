@@ -1,7 +1,8 @@
 use Rattle.std.proofs.Common.{◌≡◌, ◌∙◌, ap, arith, length, List, ℕ, Option}
 use Rattle.fp_model.specs.declared.calls.Message.{Message}
 use Rattle.fp_model.specs.Lasts.{Last}
-use Rattle.fp_core.specs.Numbering.{last_told, with_used}
+use Rattle.fp_core.specs.Numbering.{last_told}
+use Rattle.fp_core.specs.inside.Numbering.{with_used}
 use Rattle.fp_core.specs.declared.engine.Region.TheVariants as regions
 use Rattle.fp_core.proofs.Ends.{region_is, room_within}
 use Rattle.fp_core.proofs.engine.Engine.end.Goals as goal

@@ -5,7 +5,7 @@ use Rattle.fp_model.specs.declared.log.Outcome.{Outcome}
 use Rattle.fp_model.specs.declared.log.Outcome.TheVariants as outcome
 use Rattle.fp_model.specs.Machine.{ended_with}
 use Rattle.fp_core.specs.declared.engine.Region.TheVariants as regions
-use Rattle.fp_core.specs.Ending.{refused_entry}
+use Rattle.fp_core.specs.inside.Ending.{refused_entry}
 use Rattle.fp_core.specs.Relation.{StandsFor}
 use Rattle.fp_core.proofs.Ends.{may_end, region_is}
 use Rattle.fp_core.proofs.Refusals.{refused_is, verify_refused, verify_tried}

@@ -1,8 +1,8 @@
 use Rattle.std.proofs.Common.{◌≡◌, ◌∙◌, sym, ap, subst, arith, ◌-◌, Some, slice_get}
 use Rattle.ci_locks.specs.Table.{standing}
 use Rattle.fp_core.specs.declared.engine.Region.TheVariants as regions
-use Rattle.fp_core.specs.Acting.{HasActed, MayEnd}
-use Rattle.fp_core.specs.Answering.{IsActed}
+use Rattle.fp_core.specs.inside.Acting.{HasActed, MayEnd}
+use Rattle.fp_core.specs.inside.Answering.{IsActed}
 use Rattle.fp_core.specs.Relation.{IsTransaction}
 use Rattle.fp_core.proofs.Ends.{may_end, not_idle, region_is}
 use Rattle.fp_core.proofs.Goings.{has_acted, with_active, works_still}

@@ -2,7 +2,7 @@ use Rattle.std.proofs.Common.{refl, sym, subst, arith, ◌≤◌}
 use Rattle.std.specs.VecDeque.{deque_capacity}
 use Rattle.fp_model.specs.Machine.{ended_with}
 use Rattle.fp_core.specs.declared.engine.Engine.{Engine}
-use Rattle.fp_core.specs.Acting.{MayEnd}
+use Rattle.fp_core.specs.inside.Acting.{MayEnd}
 use Rattle.fp_core.specs.Relation.{StandsFor}
 use Rattle.fp_core.proofs.Ends.{ended_at, uses_last}
 use Rattle.fp_core.proofs.Goings.{on_err}

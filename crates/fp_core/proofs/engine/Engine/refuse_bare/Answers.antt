@@ -8,7 +8,8 @@ use Rattle.fp_model.specs.declared.log.Entry.{Entry}
 use Rattle.fp_model.specs.declared.log.Outcome.TheVariants as outcome
 use Rattle.fp_model.specs.Lasts.{Last}
 use Rattle.fp_core.specs.declared.numbering.Kept.{Kept}
-use Rattle.fp_core.specs.Numbering.{last_kept, last_told, with_used}
+use Rattle.fp_core.specs.Numbering.{last_kept, last_told}
+use Rattle.fp_core.specs.inside.Numbering.{with_used}
 use Rattle.fp_core.specs.declared.engine.Region.{Region}
 use Rattle.fp_core.specs.declared.engine.Region.TheVariants as regions
 use Rattle.fp_core.specs.Relation.{StandsFor, owed_of}

@@ -2,7 +2,8 @@ use Rattle.std.proofs.Common.{◌∙◌, ap, arith, Option, List, ◌++◌, ◌�
 use Rattle.std.specs.Prelude.{option_map}
 use Rattle.fp_model.specs.declared.log.Entry.{Entry}
 use Rattle.fp_model.specs.Lasts.{Last}
-use Rattle.fp_core.specs.Numbering.{last_kept, with_used}
+use Rattle.fp_core.specs.Numbering.{last_kept}
+use Rattle.fp_core.specs.inside.Numbering.{with_used}
 use Rattle.fp_core.specs.declared.engine.Owed.{Owed}
 use Rattle.fp_core.specs.Relation.{owed_of}
 use Rattle.fp_core.proofs.Readings.{refused_stands}

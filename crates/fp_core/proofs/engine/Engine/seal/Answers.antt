@@ -1,7 +1,7 @@
 use Rattle.std.proofs.Common.{◌≡◌, refl, arith, ◌≤◌, ◌++◌, length, take}
 use Rattle.std.proofs.lemmas.Grind.{common_steps}
 use Rattle.fp_core.specs.Relation.{rules_in}
-use Rattle.fp_core.specs.Sealing.{replies_of}
+use Rattle.fp_core.specs.inside.Sealing.{replies_of}
 use Rattle.fp_core.specs.Sparing.{IsLogSet}
 use Rattle.fp_core.proofs.FrontLemmas.{fronts_none, fronts_on, fronts_sealing, fronts_sent, holds_none, holds_on, holds_sealed, holds_sent}
 use Rattle.fp_core.proofs.Logs.{halts, rest_behind, sent_behind, tells}

@@ -1,7 +1,7 @@
 use Rattle.std.proofs.Common.{◌∙◌, ap, subst, sym}
 use Rattle.fp_model.specs.History.{Refuses}
 use Rattle.fp_core.specs.declared.asking.Demand.TheVariants as demand
-use Rattle.fp_core.specs.Reading.{IsDemandIn, request_for}
+use Rattle.fp_core.specs.inside.Reading.{IsDemandIn, request_for}
 use Rattle.fp_core.proofs.Readings.{takeable_in, taken, taken_held}
 use Rattle.fp_core.proofs.engine.Engine.take_line.Goals as goal
 

@@ -1,5 +1,5 @@
 use Rattle.std.proofs.Common.{subst}
-use Rattle.fp_core.specs.Acting.{HasActed}
+use Rattle.fp_core.specs.inside.Acting.{HasActed}
 use Rattle.fp_core.specs.declared.answering.Acted.{Acted}
 use Rattle.fp_core.proofs.engine.Engine.try_act.Goals as goal
 

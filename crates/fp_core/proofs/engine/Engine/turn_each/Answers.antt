@@ -1,6 +1,6 @@
 use Rattle.std.proofs.Common.{◌≡◌, ◌∙◌, ap, refl, subst, arith, ℕ, ◌+◌, ◌<◌, length, Some, slice_get}
 use Rattle.fp_core.specs.declared.engine.Region.TheVariants as regions
-use Rattle.fp_core.specs.Rounding.{StoppedAmong, TookTurns, turns_of}
+use Rattle.fp_core.specs.inside.Rounding.{StoppedAmong, TookTurns, turns_of}
 use Rattle.fp_core.proofs.Rounds.{on_err_sure, one_turned, stopped_among}
 use Rattle.fp_core.proofs.Steps.{regions_long}
 use Rattle.fp_core.proofs.Takes.{is_idle}

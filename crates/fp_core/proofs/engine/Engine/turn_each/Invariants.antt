@@ -1,7 +1,7 @@
 use Rattle.std.proofs.Common.{◌≡◌, length}
 use Rattle.fp_model.specs.Machine.{Machine}
 use Rattle.fp_core.specs.Relation.{StandsFor, rules_in}
-use Rattle.fp_core.specs.Rounding.{TookTurns, turns_of}
+use Rattle.fp_core.specs.inside.Rounding.{TookTurns, turns_of}
 use Rattle.fp_core.proofs.engine.Engine.turn_each.Given as goal
 
 -- the regions so far had their turns

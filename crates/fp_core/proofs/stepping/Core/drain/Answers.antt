@@ -4,7 +4,7 @@ use Rattle.fp_source.specs.declared.part.Part.TheVariants as part
 use Rattle.fp_core.specs.Draining.{DrainStopped}
 use Rattle.fp_core.specs.Relation.{rules_in}
 use Rattle.fp_core.specs.Sparing.{IsLogSet}
-use Rattle.fp_core.specs.Rounding.{Went}
+use Rattle.fp_core.specs.inside.Rounding.{Went}
 use Rattle.fp_core.proofs.Bounds.{needs_fewer, with_lines_reached}
 use Rattle.fp_core.proofs.Comings.{came_on, drained_by, moments_none, moments_on, none_come, stopped_on}
 use Rattle.fp_core.proofs.Onwards.{continued_both, continued_none, reads_nothing_both, reads_nothing_none, reads_only_both, reads_only_none}

@@ -8,7 +8,7 @@ use Rattle.fp_source.specs.declared.part.Part.TheVariants as part
 use Rattle.fp_core.specs.Draining.{IsLeftByDrain}
 use Rattle.fp_core.specs.Fronts.{HoldsFronts, KeepsFronts}
 use Rattle.fp_core.specs.Relation.{rules_in}
-use Rattle.fp_core.specs.Rounding.{HasCome, NeedsFewer}
+use Rattle.fp_core.specs.inside.Rounding.{HasCome, NeedsFewer}
 use Rattle.fp_core.specs.Sparing.{IsLogSet, Spares}
 use Rattle.fp_core.specs.Standing.{IsContinued, Origin, StandsBeside}
 use Rattle.fp_core.proofs.stepping.Core.drain.Given as goal

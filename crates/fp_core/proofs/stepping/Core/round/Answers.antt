@@ -8,7 +8,7 @@ use Rattle.fp_core.specs.declared.stop.Stop.TheVariants as stops
 use Rattle.fp_core.specs.Draining.{DrainStopped}
 use Rattle.fp_core.specs.Relation.{rules_in}
 use Rattle.fp_core.specs.Sparing.{IsLogSet}
-use Rattle.fp_core.specs.Rounding.{TookTurns, WentBeside, turns_of}
+use Rattle.fp_core.specs.inside.Rounding.{TookTurns, WentBeside, turns_of}
 use Rattle.fp_core.proofs.Comings.{before_log, came_off, in_region, in_stands, moments_log, stopped_in, stopped_log, stopped_region, turns_stand, went_on}
 use Rattle.fp_core.proofs.FrontLemmas.{fronts_from, fronts_none, holds_from, holds_none}
 use Rattle.fp_core.proofs.SparingLemmas.{spares_none}

@@ -1,6 +1,6 @@
 use Rattle.std.proofs.Common.{◌≡◌, ◌≤◌, ◌++◌, ◌-◌, length}
 use Rattle.fp_source.specs.Source.{ReadsOnly}
-use Rattle.fp_source.specs.Newlines.{HasNoNewline}
+use Rattle.fp_source.specs.inside.Newlines.{HasNoNewline}
 use Rattle.fp_source.specs.Lines.{to_come, lines_given}
 use Rattle.fp_source.specs.declared.part.Part.TheVariants.{Messages}
 use Rattle.fp_source.proofs.lines.Lines.gather.Given as goal

@@ -4,8 +4,10 @@ use Rattle.fp_model.specs.Recovery.{Holds}
 use Rattle.fp_site.specs.Moments.{Through}
 use Rattle.fp_site.proofs.Images.{durable_settles}
 use Rattle.gated_write.specs.Gates.{IsGatedImage}
-use Rattle.log_groups.specs.Images.{HasFrontOf, IsFrontOf, IsLog, IsAtRest, IsWithOrWithout, IsBeforeOrAfter, IsGated, IsOpened, with_group, with_group_at}
-use Rattle.log_groups.specs.Log.{entries_in, part_text}
+use Rattle.log_groups.specs.Images.{HasFrontOf, IsFrontOf, IsLog, IsAtRest, IsWithOrWithout, IsBeforeOrAfter, with_group, with_group_at}
+use Rattle.log_groups.specs.inside.Images.{IsGated, IsOpened}
+use Rattle.log_groups.specs.Log.{entries_in}
+use Rattle.log_groups.specs.inside.Log.{part_text}
 use Rattle.log_groups.proofs.LogImages.{held_reaches}
 use Rattle.log_groups.proofs.Sealing.{gated_log, sealed_through, sealed_log, sealed_text, with_some, take_fewer, span, total, many, spells, gate_is, now_unsealed, now_buffered}
 use Rattle.log_groups.proofs.log.Log.seal.Goals as goal

@@ -1,6 +1,7 @@
 use Rattle.std.proofs.Common.{◌∙◌, ap, sym, subst}
 use Rattle.fp_site.specs.Disk.{Settles}
-use Rattle.msdb_checkpoint.specs.Steps.{IsAt, IsNext, Turn, other_set}
+use Rattle.msdb_checkpoint.specs.Steps.{IsAt, Turn, other_set}
+use Rattle.msdb_checkpoint.specs.inside.Steps.{IsNext}
 use Rattle.msdb_checkpoint.proofs.StageLemmas.{at_slice, moved, moved_image, same_body, stands_at}
 use Rattle.msdb_checkpoint.proofs.checkpoints.Checkpoints.step.Goals as goal
 

@@ -1,6 +1,6 @@
 use Rattle.std.proofs.Common.{◌∙◌, map, ap, subst}
 use Rattle.std.proofs.lemmas.Map.Iter.{iter_end}
-use Rattle.msdb_store.specs.Touches.{AreInOrder, item_of}
+use Rattle.msdb_store.specs.inside.Touches.{AreInOrder, item_of}
 use Rattle.msdb_store.proofs.Stagings.{items_from, order_entries}
 use Rattle.msdb_store.proofs.staging.Staging.into_items.Goals as goal
 

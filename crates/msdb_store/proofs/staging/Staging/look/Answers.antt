@@ -1,5 +1,6 @@
 use Rattle.std.proofs.Common.{◌∙◌, List, ap}
-use Rattle.msdb_store.specs.Touches.{Touch, bytes_at}
+use Rattle.msdb_store.specs.Touches.{Touch}
+use Rattle.msdb_store.specs.inside.Touches.{bytes_at}
 use Rattle.msdb_store.proofs.Stagings.{look_entries}
 use Rattle.msdb_store.proofs.staging.Staging.look.Goals as goal
 

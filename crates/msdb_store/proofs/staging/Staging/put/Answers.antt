@@ -1,5 +1,5 @@
 use Rattle.std.proofs.Common.{◌∙◌, ap, map}
-use Rattle.msdb_store.specs.Touches.{put_touch}
+use Rattle.msdb_store.specs.inside.Touches.{put_touch}
 use Rattle.msdb_store.proofs.Stagings.{put_entries, touch_of}
 use Rattle.msdb_store.proofs.staging.Staging.put.Goals as goal
 

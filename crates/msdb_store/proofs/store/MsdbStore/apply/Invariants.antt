@@ -2,7 +2,7 @@ use Rattle.std.specs.Prelude.{◌≡◌, List, length, take}
 use Rattle.std.specs.List.{AllByRecursion}
 use Rattle.fp_model.specs.Items.{with_items}
 use Rattle.fp_model.specs.declared.definitions.MsdbDef.{MsdbDef}
-use Rattle.msdb_store.specs.Putting.{AreFew}
+use Rattle.msdb_store.specs.inside.Putting.{AreFew}
 use Rattle.msdb_store.specs.Store.{IsFitSegment, IsOf}
 use Rattle.msdb_store.proofs.store.MsdbStore.apply.Given as goal
 

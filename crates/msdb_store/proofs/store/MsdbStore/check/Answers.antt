@@ -5,7 +5,7 @@ use Rattle.fld_calls.proofs.SettleLemmas.{here}
 use Rattle.fp_model.specs.FitCalls.{IsFitDeferred}
 use Rattle.fp_model.specs.Settle.{settle}
 use Rattle.msdb_store.specs.Settling.{CanSettle, HasItem, IsAnswer, IsNamed}
-use Rattle.msdb_store.specs.Steps.{AtCall}
+use Rattle.msdb_store.specs.inside.Steps.{AtCall}
 use Rattle.key_order.proofs.Ascending.{all_at}
 use Rattle.msdb_store.proofs.Names.{same_keys}
 use Rattle.msdb_store.proofs.Queues.{IsSettling, bad_answer, good_answer, one_more, only_item, staged_of, step_long}

@@ -4,8 +4,8 @@ use Rattle.fp_model.specs.Settle.{settle}
 use Rattle.fp_model.specs.declared.log.Item.{Item}
 use Rattle.fp_model.specs.declared.log.Item.TheVariants.{Segment}
 use Rattle.msdb_store.specs.Settling.{IsAnswer, named}
-use Rattle.msdb_store.specs.Steps.{AtCall}
-use Rattle.msdb_store.specs.Touches.{item_of}
+use Rattle.msdb_store.specs.inside.Steps.{AtCall}
+use Rattle.msdb_store.specs.inside.Touches.{item_of}
 use Rattle.msdb_store.proofs.Names.{same_keys}
 use Rattle.msdb_store.proofs.Queues.{at_one, behind_one, good_answer, one_bad, only_touch}
 use Rattle.msdb_store.proofs.store.MsdbStore.check_one.Goals as goal

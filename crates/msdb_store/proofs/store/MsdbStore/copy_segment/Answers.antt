@@ -5,9 +5,10 @@ use Rattle.fp_model.specs.Items.{with_item}
 use Rattle.fp_model.specs.State.{ascend, key_of}
 use Rattle.fp_model.specs.declared.definitions.FieldDef.{FieldDef}
 use Rattle.fp_model.specs.declared.log.Item.TheVariants.{Segment}
-use Rattle.msdb_store.specs.Putting.{AreFew, KeepsRoom}
+use Rattle.msdb_store.specs.inside.Putting.{AreFew, KeepsRoom}
 use Rattle.msdb_store.specs.Settling.{adds}
-use Rattle.msdb_store.specs.Store.{IsOf, Stored, lacks, least, room}
+use Rattle.msdb_store.specs.Store.{IsOf, Stored, least, room}
+use Rattle.msdb_store.specs.inside.Store.{lacks}
 use Rattle.msdb_store.specs.declared.table.Table.{Table}
 use Rattle.msdb_store.proofs.Tables.{belongs, msdb_in, put_into, taken_away, with_room}
 use Rattle.key_order.proofs.Ascending.{stands_there}

@@ -2,7 +2,7 @@ use Rattle.std.proofs.Common.{sym, subst}
 use Rattle.std.specs.Prelude.{Ok}
 use Rattle.fp_model.specs.FitCalls.{IsFitDeferred}
 use Rattle.fp_model.specs.declared.calls.Deferred.TheVariants.{Repl, Isrt}
-use Rattle.msdb_store.specs.Steps.{IsGiven}
+use Rattle.msdb_store.specs.inside.Steps.{IsGiven}
 use Rattle.msdb_store.proofs.Calls.{given_isrt, given_repl}
 use Rattle.msdb_store.proofs.store.MsdbStore.given.Goals as goal
 

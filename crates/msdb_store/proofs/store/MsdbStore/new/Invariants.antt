@@ -1,5 +1,5 @@
 use Rattle.std.specs.Prelude.{◌≡◌, ◌++◌, map, length}
-use Rattle.msdb_store.specs.Putting.{AreFew}
+use Rattle.msdb_store.specs.inside.Putting.{AreFew}
 use Rattle.msdb_store.proofs.store.MsdbStore.new.Given as goal
 
 -- the tables so far, with what is left, are all

@@ -1,9 +1,9 @@
 use Rattle.std.proofs.Common.{◌≡◌, ◌∙◌, ap, sym, subst, length, take, ℕ, Bool, true, arith}
 use Rattle.std.proofs.lemmas.List.Edits.{length-insert}
 use Rattle.std.specs.Prelude.{if◌then◌else◌, is_none}
-use Rattle.msdb_store.specs.Store.{lacks}
+use Rattle.msdb_store.specs.inside.Store.{lacks}
 use Rattle.fp_model.specs.State.{key_of}
-use Rattle.msdb_store.specs.Places.{IsPlaced}
+use Rattle.msdb_store.specs.inside.Places.{IsPlaced}
 use Rattle.msdb_store.specs.declared.keyed.Place.TheVariants.{Stands, Lacks}
 use Rattle.key_order.proofs.Ascending.{found_at, not_both, put_over, put_in}
 use Rattle.msdb_store.proofs.table.Table.put.Goals as goal

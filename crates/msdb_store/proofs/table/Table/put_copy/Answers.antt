@@ -1,8 +1,8 @@
 use Rattle.std.proofs.Common.{◌≡◌, ◌∙◌, ap, sym, subst, length, take, List, ℕ, true}
 use Rattle.std.specs.Prelude.{is_none}
-use Rattle.msdb_store.specs.Store.{lacks}
+use Rattle.msdb_store.specs.inside.Store.{lacks}
 use Rattle.fp_model.specs.State.{key_of}
-use Rattle.msdb_store.specs.Places.{IsPlaced}
+use Rattle.msdb_store.specs.inside.Places.{IsPlaced}
 use Rattle.msdb_store.specs.declared.keyed.Place.TheVariants.{Stands, Lacks}
 use Rattle.key_order.proofs.Ascending.{found_at, not_both, put_over}
 use Rattle.msdb_store.proofs.Slots.{each_at}

@@ -5,7 +5,7 @@ use Rattle.fp_model.specs.declared.database.Db.{Db}
 use Rattle.fp_model.specs.declared.database.Dedb.{Dedb}
 use Rattle.fp_model.specs.declared.database.Msdb.{Msdb}
 use Rattle.past_anchors.specs.Databases.{AreDedbsOf, state_of}
-use Rattle.past_anchors.specs.Places.{area_of}
+use Rattle.past_anchors.specs.inside.Places.{area_of}
 use Rattle.past_anchors.proofs.Dropping.{above_zero, its_area, purge_none, purge_some, purge_without, shape_purged}
 use Rattle.past_anchors.proofs.anchors.Anchors.purge.Goals as goal
 

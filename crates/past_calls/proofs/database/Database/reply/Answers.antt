@@ -3,7 +3,7 @@ use Rattle.std.specs.Prelude.{IfOk}
 use Rattle.fp_model.specs.declared.calls.Call.{Call}
 use Rattle.fp_model.specs.MsdbCalls.{msdb_reply}
 use Rattle.past_calls.specs.declared.reply.Reply.{Reply}
-use Rattle.past_calls.specs.Replies.{is_changed, noted_in, replied_by, segments_in}
+use Rattle.past_calls.specs.inside.Replies.{is_changed, noted_in, replied_by, segments_in}
 use Rattle.past_calls.proofs.BeginLemmas.{if_ok}
 use Rattle.past_calls.proofs.database.Database.reply.Goals as goal
 

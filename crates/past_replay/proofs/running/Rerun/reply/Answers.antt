@@ -1,7 +1,7 @@
 use Rattle.std.proofs.Common.{refl, []}
 use Rattle.past_anchors.proofs.Standing.{roots_fit}
 use Rattle.past_segments.specs.Pasts.{databases_at}
-use Rattle.past_replay.specs.Running.{now_of}
+use Rattle.past_replay.specs.inside.Running.{now_of}
 use Rattle.past_replay.proofs.HoldingLemmas.{defers_one}
 use Rattle.past_replay.proofs.running.Rerun.reply.Goals as goal
 

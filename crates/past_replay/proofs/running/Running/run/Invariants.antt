@@ -1,4 +1,4 @@
-use Rattle.past_replay.specs.Running.{IsUnderWay}
+use Rattle.past_replay.specs.inside.Running.{IsUnderWay}
 use Rattle.past_replay.proofs.running.Running.run.Given as goal
 
 abbrev pub invariant-loop : goal.invariant-loop

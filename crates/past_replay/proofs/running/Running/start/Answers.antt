@@ -7,7 +7,7 @@ use Rattle.fp_model.specs.Asking.{full_cost, script_of}
 use Rattle.fp_model.specs.FitCalls.{IsTied}
 use Rattle.fp_model.specs.Serial.{goes}
 use Rattle.fp_model.specs.Workspace.{Workspace, fresh}
-use Rattle.past_replay.specs.Running.{now_of, rules_in}
+use Rattle.past_replay.specs.inside.Running.{now_of, rules_in}
 use Rattle.past_replay.proofs.GoingLemmas.{tied_so}
 use Rattle.past_replay.proofs.HoldingLemmas.{sees_none}
 use Rattle.past_replay.proofs.ListLemmas.{stands}

@@ -1,7 +1,7 @@
 use Rattle.std.proofs.Common.{◌≡◌, ◌≤◌, subst, sym, true}
 use Rattle.fp_model.specs.Asking.{full_cost}
 use Rattle.txn_lang.specs.Suiting.{all_suit}
-use Rattle.past_replay.specs.Running.{IsEnd}
+use Rattle.past_replay.specs.inside.Running.{IsEnd}
 use Rattle.past_replay.proofs.GoingLemmas.{asks, moves, replies, rolls}
 use Rattle.past_replay.proofs.ListLemmas.{each_has}
 use Rattle.past_replay.proofs.running.Running.step.Goals as goal

@@ -1,5 +1,6 @@
 use Rattle.std.proofs.Common.{◌≡◌, None, ℕ, List, arith, ap, sym, ◌∙◌, subst, length, slice_index_or, ◌-◌, ◌<◌, suc}
-use Rattle.past_segments.specs.Times.{Rises, value_at, value_before}
+use Rattle.past_segments.specs.Times.{Rises, value_at}
+use Rattle.past_segments.specs.inside.Times.{value_before}
 use Rattle.past_segments.specs.declared.slot.Version.{Version}
 use Rattle.past_segments.proofs.Values.{before_is}
 use Rattle.past_segments.proofs.slot.Slot.at.Goals as goal

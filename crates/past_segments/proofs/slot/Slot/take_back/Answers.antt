@@ -1,6 +1,7 @@
 use Rattle.std.proofs.Common.{ap, subst, sym, ◌∙◌, arith, refl, ◌≡◌, ◌<◌, ◌≤◌, ℕ, List, [], ◌∷◌, ◌++◌, Option, true}
 use Rattle.std.specs.Prelude.{MatchOption}
-use Rattle.past_segments.specs.Times.{EndsBy, HasKey, Rises, reaches, value_at}
+use Rattle.past_segments.specs.Times.{EndsBy, HasKey, Rises, value_at}
+use Rattle.past_segments.specs.inside.Times.{reaches}
 use Rattle.past_segments.specs.declared.slot.Version.{Version}
 use Rattle.std.specs.Prelude.{IfSome, take}
 use Rattle.past_segments.proofs.Values.{all_front, not_reached, popped, rises_front, value_stays}

@@ -1,7 +1,7 @@
 use Rattle.std.proofs.Common.{◌≡◌, ◌∙◌, ap, subst, List, ◌∷◌, None}
 use Rattle.std.specs.Prelude.{reverse}
 use Rattle.txn_lang.specs.declared.standing.Frame.{Frame}
-use Rattle.txn_lang.specs.Building.{AreFrames, HasShape}
+use Rattle.txn_lang.specs.inside.Building.{AreFrames, HasShape}
 use Rattle.txn_lang.proofs.BlockLemmas.{shape_close, reverse_push}
 use Rattle.txn_lang.proofs.standing.Builder.close.Goals as goal
 

@@ -1,7 +1,7 @@
 use Rattle.std.proofs.Common.{◌∙◌, sym, subst, refl, List}
 use Rattle.std.specs.Prelude.{reverse, is_some}
 use Rattle.txn_lang.specs.declared.standing.Frame.{Frame}
-use Rattle.txn_lang.specs.Building.{HasShape}
+use Rattle.txn_lang.specs.inside.Building.{HasShape}
 use Rattle.txn_lang.proofs.BlockLemmas.{shape_scripts, nothing_open}
 use Rattle.txn_lang.proofs.standing.Builder.finish.Goals as goal
 

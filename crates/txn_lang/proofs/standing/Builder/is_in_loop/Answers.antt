@@ -2,7 +2,7 @@ use Rattle.std.proofs.Common.{rules, tests, ◌∙◌}
 use Rattle.std.proofs.lemmas.Iterator.{YieldsList-from_slice}
 use Rattle.std.proofs.lemmas.Iterator.Search.{any_from_yields_List}
 use Rattle.txn_lang.specs.Blocks.{is_loop}
-use Rattle.txn_lang.specs.Building.{open_of}
+use Rattle.txn_lang.specs.inside.Building.{open_of}
 use Rattle.txn_lang.proofs.BlockLemmas.{any_reverse}
 use Rattle.txn_lang.proofs.standing.Builder.is_in_loop.Goals as goal
 

@@ -2,7 +2,7 @@ use Rattle.std.proofs.Common.{◌≡◌, ◌∙◌, ap, subst, refl, List, ◌�
 use Rattle.std.specs.Prelude.{reverse, IsSome}
 use Rattle.txn_lang.specs.declared.standing.Frame.{Frame}
 use Rattle.txn_lang.specs.Blocks.{else_in}
-use Rattle.txn_lang.specs.Building.{AreFrames, HasShape, open_of, turned}
+use Rattle.txn_lang.specs.inside.Building.{AreFrames, HasShape, open_of, turned}
 use Rattle.txn_lang.proofs.BlockLemmas.{shape_turn, reverse_push, choice_in, turned_opening}
 use Rattle.txn_lang.proofs.standing.Builder.turn.Goals as goal
 

@@ -1,7 +1,7 @@
 use Rattle.std.proofs.Common.{rules, ◌≡◌, Err}
 use Rattle.fp_model.specs.declared.scripts.Statement.{out-Statement}
 use Rattle.fp_model.specs.declared.scripts.Statement.TheOpen as open_statement
-use Rattle.txn_machine.specs.Doing.{deed_of_loop}
+use Rattle.txn_machine.specs.inside.Doing.{deed_of_loop}
 use Rattle.txn_machine.specs.Knowing.{env_of}
 use Rattle.txn_machine.proofs.StatementLemmas.{choice_runs, choice_stops, fld_runs, fld_stops, is_choice, is_fld, is_loop, loop_runs}
 use Rattle.txn_machine.proofs.known.Known.tried.Goals as goal

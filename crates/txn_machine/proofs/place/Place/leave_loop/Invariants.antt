@@ -5,7 +5,7 @@ use Rattle.fp_model.specs.declared.scripts.Statement.{Statement}
 use Rattle.fp_model.specs.Operands.{Env}
 use Rattle.fp_model.specs.Asking.{Leaves}
 use Rattle.txn_machine.specs.Places.{around}
-use Rattle.txn_machine.specs.Work.{work_around}
+use Rattle.txn_machine.specs.inside.Work.{work_around}
 use Rattle.txn_machine.proofs.place.Place.leave_loop.Given as goal
 
 abbrev pub invariant-loop-frame : goal.invariant-loop-frame

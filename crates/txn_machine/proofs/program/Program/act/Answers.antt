@@ -1,7 +1,7 @@
 use Rattle.txn_machine.proofs.ActLemmas.{asked_is, chose_alike, chose_less, left_alike, left_work, next_less, passed, repeats_alike, repeats_less, replied, rolled, set_alike_program, set_less, stands, unchanged}
 use Rattle.std.proofs.Common.{◌≡◌, ◌<◌, sym, ap, subst, ℕ, Option, Some, None, Result, Ok, Err}
 use Rattle.txn_machine.specs.declared.program.Program.{Program}
-use Rattle.txn_machine.specs.Work.{work}
+use Rattle.txn_machine.specs.inside.Work.{work}
 use Rattle.txn_machine.proofs.program.Program.act.Goals as goal
 
 pub returns-in-Set-clause-alike : goal.returns-in-Set-clause-alike

@@ -1,8 +1,9 @@
 use Rattle.std.proofs.Common.{◌≡◌, ◌∙◌, ap, sym, subst, Some, []}
 use Rattle.txn_machine.specs.declared.known.Lesson.{Lesson}
-use Rattle.txn_machine.specs.Fit.{FitsLesson}
+use Rattle.txn_machine.specs.inside.Fit.{FitsLesson}
 use Rattle.txn_machine.proofs.LessonLemmas.{fits_lesson, types_taught}
-use Rattle.txn_machine.specs.Knowing.{env_of, lesson_of, taught}
+use Rattle.txn_machine.specs.Knowing.{env_of, lesson_of}
+use Rattle.txn_machine.specs.inside.Knowing.{taught}
 use Rattle.fp_model.specs.Operands.{Env, ShownSegment}
 use Rattle.std.specs.Prelude.{◌==◌, find, option_map}
 use Rattle.txn_machine.proofs.PlaceLemmas.{given}

@@ -1,7 +1,7 @@
 use Rattle.std.proofs.Common.{◌≡◌, None}
 use Rattle.txn_machine.specs.Knowing.{segments_of}
-use Rattle.txn_machine.specs.Stepping.{ComesAlike}
-use Rattle.txn_machine.specs.Work.{work}
+use Rattle.txn_machine.specs.inside.Stepping.{ComesAlike}
+use Rattle.txn_machine.specs.inside.Work.{work}
 use Rattle.txn_machine.proofs.program.Program.next.Given as goal
 
 abbrev pub invariant-loop-next : goal.invariant-loop-next

@@ -4,7 +4,7 @@ use Rattle.fp_model.specs.declared.scripts.Statement.{Statement}
 use Rattle.txn_machine.specs.declared.place.Frame.{Frame}
 use Rattle.txn_machine.specs.Places.{block_at}
 use Rattle.txn_machine.specs.declared.doing.Deed.{Deed}
-use Rattle.txn_machine.specs.Doing.{Does, IsCall}
+use Rattle.txn_machine.specs.inside.Doing.{Does, IsCall}
 use Rattle.txn_machine.proofs.FitStatements.{fit_at, fit_block, result_fits, result_holds, statement_fit}
 use Rattle.txn_machine.proofs.SuitLemmas.{ends_suit, statement_suits}
 use Rattle.txn_machine.specs.Fit.{type_shown}
@@ -12,7 +12,7 @@ use Rattle.txn_machine.specs.Running.{IsSuitedNext}
 use Rattle.txn_lang.specs.Suiting.{suits_step}
 use Rattle.fp_model.specs.FitCalls.{fits_step}
 use Rattle.txn_lang.proofs.Fitting.{fits_judges, suits_judges}
-use Rattle.txn_machine.specs.Stepping.{IsDeed}
+use Rattle.txn_machine.specs.inside.Stepping.{IsDeed}
 use Rattle.txn_machine.proofs.EndLemmas.{stands_at}
 use Rattle.txn_machine.proofs.program.Program.step.Goals as goal
 

@@ -1,0 +1,4 @@
+pub mod Graph
+pub mod Regions
+pub mod Sets
+pub mod Standing

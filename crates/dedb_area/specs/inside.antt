@@ -1,0 +1,5 @@
+pub mod Anchors
+pub mod Applying
+pub mod Committing
+pub mod Keeping
+pub mod Purging

@@ -1,0 +1,4 @@
+pub mod Aims
+pub mod Changes
+pub mod Paths
+pub mod Reaches

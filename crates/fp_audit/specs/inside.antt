@@ -1,0 +1,3 @@
+pub mod Ending
+pub mod Judging
+pub mod Numbers

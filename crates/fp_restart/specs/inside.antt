@@ -1,0 +1,3 @@
+pub mod Begun
+pub mod Numbers
+pub mod Replayed

@@ -1,0 +1,4 @@
+pub mod Fullness
+pub mod Inserts
+pub mod Places
+pub mod Purges
