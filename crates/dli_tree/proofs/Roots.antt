@@ -41,6 +41,12 @@ below_one aim d entering below is some =
     sym (wants_down aim d [] ∙ ap (λ (o : Option Search). option_map_or (λ b. wants b []) o false)
     (sym is ∙ ap (option_map aim_of) some))
 
+pub none_below : (aim : Search) (d : Step) (entering : Option Aim) → option_map aim_of entering ≡ entered aim d
+    → entering ≡ None → false ≡ wants aim (d ∷ [])
+none_below aim d entering is none =
+    sym (wants_down aim d [] ∙ ap (λ (o : Option Search). option_map_or (λ b. wants b []) o false)
+    (sym is ∙ ap (option_map aim_of) none))
+
 pub not_inside : (aim : Search) (xs : List StepOf) (d : Step) → aim.within ≡ Some (steps_of xs)
     → (length xs == 0) ≡ false → wants aim (d ∷ []) ≡ false
 not_inside aim [] d e some = absurd (not_both some)

@@ -50,6 +50,22 @@ pub no_line_too_many : {T : Type 0} (r : Result T LineFault) (n : ℕ) → IsErr
 no_line_too_many (Ok x) n is e = is
 no_line_too_many (Err y) n is e = absurd cc
 
+-- want of memory for a line
+pub memory_no_long_line : {T : Type 0} (r : Result T LineFault) (n : ℕ) → IsErrAnd r (λ e. e ≡ line.Memory)
+    → IsErrOf r (line.TooLong n) → ⊥
+memory_no_long_line (Ok x) n is e = is
+memory_no_long_line (Err y) n is e = absurd cc
+
+pub memory_no_line_too_many : {T : Type 0} (r : Result T LineFault) (n : ℕ) → IsErrAnd r (λ e. e ≡ line.Memory)
+    → IsErrOf r (line.TooMany n) → ⊥
+memory_no_line_too_many (Ok x) n is e = is
+memory_no_line_too_many (Err y) n is e = absurd cc
+
+pub memory_no_failed_read : {T : Type 0} (r : Result T LineFault) → IsErrAnd r (λ e. e ≡ line.Memory)
+    → IsErrOf r line.Failed → ⊥
+memory_no_failed_read (Ok x) is e = is
+memory_no_failed_read (Err y) is e = absurd cc
+
 -- ---- what a fault of a line is caused by
 
 pub caused : {T : Type 0} (r : Result T LineFault) (before now : ℕ) → IsErrAnd r (λ e. e ≡ line.Failed)

@@ -1,4 +1,5 @@
 use Rattle.std.proofs.Common.{arith, ◌∙◌}
+use Rattle.fp_source.proofs.Errs.{nothing_if, nothing_on, memory_no_long_line, memory_no_line_too_many, memory_no_failed_read}
 use Rattle.fp_source.proofs.Pieces.{part_taken, long_joined, as_number}
 use Rattle.fp_source.proofs.lines.Lines.take_part.Goals as goal
 
@@ -7,6 +8,24 @@ returns-then-part-len-clause-too_long c = λ n e.
     let it = rw c.deref.ensures.value at c.first_part-by_newline.ensures in
     long_joined c.args.line.now.items c.first_part-by_newline.result.0.now _ _ c.first_part-by_newline.result.1
     c.requires.plain it (omega arith)
+
+pub returns-in_err-extend_from_slice-clause-part : goal.returns-in_err-extend_from_slice-clause-part
+returns-in_err-extend_from_slice-clause-part c = nothing_if c.from_residual.result _ c.from_residual.ensures.0
+
+pub returns-in_err-extend_from_slice-clause-short : goal.returns-in_err-extend_from_slice-clause-short
+returns-in_err-extend_from_slice-clause-short c = nothing_on c.from_residual.result _ c.from_residual.ensures.0
+
+pub returns-in_err-extend_from_slice-clause-too_long : goal.returns-in_err-extend_from_slice-clause-too_long
+returns-in_err-extend_from_slice-clause-too_long c = λ n e. absurd (memory_no_long_line c.from_residual.result n c.from_residual.ensures.1 e)
+
+pub returns-in_err-extend_from_slice-clause-number : goal.returns-in_err-extend_from_slice-clause-number
+returns-in_err-extend_from_slice-clause-number c = λ n e. absurd (memory_no_long_line c.from_residual.result n c.from_residual.ensures.1 e)
+
+pub returns-in_err-extend_from_slice-clause-not_many : goal.returns-in_err-extend_from_slice-clause-not_many
+returns-in_err-extend_from_slice-clause-not_many c = λ n e. memory_no_line_too_many c.from_residual.result n c.from_residual.ensures.1 e
+
+pub returns-in_err-extend_from_slice-clause-not_failed : goal.returns-in_err-extend_from_slice-clause-not_failed
+returns-in_err-extend_from_slice-clause-not_failed c = λ e. memory_no_failed_read c.from_residual.result c.from_residual.ensures.1 e
 
 pub returns-clause-part : goal.returns-clause-part
 returns-clause-part c =
