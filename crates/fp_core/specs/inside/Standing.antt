@@ -8,7 +8,7 @@ use Rattle.fp_source.specs.declared.lines.Lines.{Lines}
 use Rattle.fp_core.specs.declared.did.Did.{Did}
 use Rattle.fp_core.specs.declared.engine.Engine.{Engine}
 use Rattle.fp_core.specs.Turning.{Turned}
-use Rattle.fp_core.specs.Standing.{Origin, StandsAt, lines, Stepped}
+use Rattle.fp_core.specs.Standing.{Origin, StandsAt, Stepped}
 
 -- ---- a step
 

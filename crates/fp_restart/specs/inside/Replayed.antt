@@ -2,7 +2,7 @@
 use Rattle.std.specs.Prelude.{◌≡◌, ℕ, List, length}
 use Rattle.fp_model.specs.declared.log.Entry.{Entry}
 use Rattle.fp_restart.specs.declared.numbers.Numbers.{Numbers}
-use Rattle.fp_restart.specs.Replayed.{HasNumbersOf, count, entries, count_is, numbers}
+use Rattle.fp_restart.specs.Replayed.{HasNumbersOf}
 
 -- so they are behind some entries, of this number
 pub record HasNumbersOfSome (count : ℕ) (old new : Numbers) : Type 0 where
