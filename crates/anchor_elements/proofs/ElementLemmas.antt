@@ -1,5 +1,5 @@
 -- An element of an interval that comes to say a segment.
-use Rattle.std.proofs.Common.{◌≡◌, ◌≢◌, ℕ, zero, suc, ◌+◌, ◌-◌, ◌*◌, ◌/◌, ◌^◌, ◌<◌, ◌≤◌, ◌↔◌, List, [], ◌∷◌, ◌++◌, length, take, drop, slice_range, slice_get, nat_le, nat_eq, ◌&&◌, Bool, true, false, IsTrue, Option, Some, IfSome, if◌then◌else◌, refl, sym, ap, ◌∙◌, arith}
+use Rattle.std.proofs.Common.{◌≡◌, ◌≢◌, ℕ, zero, suc, ◌+◌, ◌-◌, ◌*◌, ◌/◌, ◌^◌, ◌<◌, ◌≤◌, ◌↔◌, List, [], ◌∷◌, ◌++◌, length, take, drop, slice_range, slice_get, nat_le, nat_eq, ◌&&◌, Bool, true, false, IsTrue, Option, IfSome, if◌then◌else◌, refl, sym, ap, ◌∙◌, arith}
 use Rattle.std.specs.Option.{option_map_or}
 use Rattle.std.proofs.lemmas.Bool.{leb-true, le-leb, eqb-true, and_parts}
 use Rattle.std.proofs.lemmas.List.{get_or-take, drop_all, append-nil, drop-take, take-take, length-take-le}
@@ -20,6 +20,7 @@ use Rattle.anchor_elements.specs.Puts.{PutsSegment}
 use Rattle.anchor_elements.specs.Spelling.{Spells, Says, firsts_at, bytes_from, spelled_length}
 use Rattle.anchor_elements.proofs.Pointers.{same_pointer}
 use Rattle.anchor_elements.proofs.SpellingLemmas.{pointer_keeps, pointers_keep, firsts_bounds, firsts_behind}
+use Rattle.plain_laws.proofs.Places.{get_there}
 
 -- ---- the element
 
@@ -182,16 +183,11 @@ direct_length : (types : List SegDef) (type : ℕ) (def : SegDef) → def.sequen
     + 3) / 4 * 4
 direct_length types type def e = rw e refl
 
-there : {A : Type 0} (xs : List A) (k : ℕ) → k < length xs → (x : A) × (slice_get xs k ≡ Some x)
-there [] k l = absurd (omega arith)
-there (x ∷ xs) zero l = (x, refl)
-there (x ∷ xs) (suc k) l = there xs k (omega arith)
-
 -- the content of a direct type fits into an empty interval
 pub type_fits : (size : ℕ) (types : List SegDef) (type : ℕ) → AreTypes size types → type < length types
     → IfSome (slice_get types type) (λ def. def.sequential ≡ false) → content_length types type + 4 ≤ size - 32
 type_fits size types type t l q =
-    let d = there types type l in
+    let d = get_there types type l in
     let z : 0 + type ≡ type = omega arith in
     let f : IfSome (slice_get types type) (λ def. stored_length types type def ≤ size - 32) =
     rw z at (each_fits_at size types types 0 type l t.fits) in

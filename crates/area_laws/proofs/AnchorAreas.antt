@@ -3,7 +3,7 @@ use Rattle.std.proofs.Common.{◌≡◌, ℕ, zero, suc, ◌+◌, ◌-◌, true,
 use Rattle.std.specs.Prelude.{Contains, nat_lt, slice_get}
 use Rattle.std.specs.List.{AllZip}
 use Rattle.std.proofs.lemmas.Bool.Decides.{nat_tests}
-use Rattle.std.proofs.lemmas.Option.{slice_get-get_or}
+use Rattle.std.proofs.lemmas.Option.{slice_get-get_or, none-some, same_Some}
 use Rattle.fp_model.specs.declared.calls.AnchorChange.{AnchorChange}
 use Rattle.fp_model.specs.declared.calls.SeqInsert.{SeqInsert}
 use Rattle.fp_model.specs.declared.database.Db.{Db}
@@ -15,11 +15,10 @@ use Rattle.fp_model.specs.State.{Area, areas_from, areas_of, areas_of_all, first
 use Rattle.area_states.specs.declared.place.Place.{Place}
 use Rattle.area_states.specs.Places.{has_anchor, place_at, place_of, places_of}
 use Rattle.area_states.specs.Databases.{HasAnchorOf}
-use Rattle.state_laws.proofs.Areas.{get_contains}
-use Rattle.state_laws.proofs.Lists.{none_is_not_some, some_is}
 use Rattle.state_laws.proofs.Stands.{area_of_anchor}
 use Rattle.area_laws.proofs.PlaceLemmas.{area_of_place, one_number, one_taker}
 use Rattle.area_laws.proofs.PurgeLemmas.{placed_among}
+use Rattle.plain_laws.proofs.Alls.{get_contains}
 
 -- ---- some area has it
 
@@ -28,7 +27,7 @@ contains_at xs x c = (c.0, slice_get-get_or xs c.0 x c.1 ∙ ap Some c.2)
 
 got_first : (own rest : List Area) (k : ℕ) (area : Area) → slice_get own k ≡ Some area
     → slice_get (own ++ rest) k ≡ Some area
-got_first [] rest k area e = absurd (none_is_not_some area e)
+got_first [] rest k area e = absurd (none-some area e)
 got_first (a ∷ own) rest zero area e = e
 got_first (a ∷ own) rest (suc k) area e = got_first own rest k area e
 
@@ -40,9 +39,9 @@ got_later (a ∷ own) rest k area e = let l = got_later own rest k area e in (su
 among_all : (dedb : ℕ) (ds : List DedbDef) (n : ℕ) (def : DedbDef) (area : Area) → slice_get ds n ≡ Some def
     → Contains (areas_from (dedb + n) 0 0 def.areas) area
     → (k : ℕ) × (slice_get (areas_of_all dedb ds) k ≡ Some area)
-among_all dedb [] n def area e c = absurd (none_is_not_some def e)
+among_all dedb [] n def area e c = absurd (none-some def e)
 among_all dedb (d ∷ ds) zero def area e c =
-    let same : d ≡ def = some_is d def e in
+    let same : d ≡ def = same_Some d def e in
     let number : dedb + 0 ≡ dedb = omega arith in
     let here : Contains (areas_from dedb 0 0 d.areas) area =
     subst (λ (n : ℕ). Contains (areas_from n 0 0 d.areas) area) number
@@ -57,10 +56,10 @@ among_all dedb (d ∷ ds) (suc n) def area e c =
 
 def_at : (defs : List DedbDef) (dedbs : List Dedb) (n : ℕ) (dedb : Dedb) → AllZip IsDedbOf defs dedbs
     → slice_get dedbs n ≡ Some dedb → (def : DedbDef) × (slice_get defs n ≡ Some def) × IsDedbOf def dedb
-def_at [] [] n dedb all e = absurd (none_is_not_some dedb e)
+def_at [] [] n dedb all e = absurd (none-some dedb e)
 def_at [] (b ∷ dedbs) n dedb all e = absurd all
 def_at (d ∷ defs) [] n dedb all e = absurd all
-def_at (d ∷ defs) (b ∷ dedbs) zero dedb all e = (d, refl, subst (IsDedbOf d) (some_is b dedb e) all.0)
+def_at (d ∷ defs) (b ∷ dedbs) zero dedb all e = (d, refl, subst (IsDedbOf d) (same_Some b dedb e) all.0)
 def_at (d ∷ defs) (b ∷ dedbs) (suc n) dedb all e = def_at defs dedbs n dedb all.1 e
 
 pub record HasAnchorArea (places : List Place) (dedb anchor : ℕ) : Type 0 where

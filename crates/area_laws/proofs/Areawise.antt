@@ -18,13 +18,14 @@ use Rattle.area_states.specs.States.{HasState, SameState}
 use Rattle.area_states.specs.Changes.{purged as purged_here, with_changes, with_inserts as with_inserts_here}
 use Rattle.area_states.specs.Databases.{AreFor, HasAnchorOf, area_in, state_of}
 use Rattle.area_states.proofs.StateLemmas.{same_state}
-use Rattle.state_laws.proofs.Areas.{get_contains}
-use Rattle.state_laws.proofs.Stands.{at_area, get_below}
+use Rattle.state_laws.proofs.Stands.{at_area}
 use Rattle.area_laws.specs.Areas.{HasArea, HasAreas, area_count}
 use Rattle.area_laws.proofs.DedbLemmas.{count_in, ends_keep_count}
 use Rattle.area_laws.proofs.InsertLemmas.{all_done, changes_keep_area, insert_keeps_area}
 use Rattle.area_laws.proofs.PlaceLemmas.{area_of_place}
 use Rattle.area_laws.proofs.PurgeLemmas.{after, count_stays, purge_elsewhere, purge_here, purge_of}
+use Rattle.std.proofs.lemmas.Option.{slice_get_within}
+use Rattle.plain_laws.proofs.Alls.{get_contains}
 
 -- ---- a commit
 
@@ -80,7 +81,7 @@ databases_have defs db good set place at =
     let a = area_of_place defs set place at in
     let there = get_contains (areas_of defs) (set - first_area_set) a.area a.there in
     let x = at_area defs db good a.area there in
-    let low = get_below x.dedb.areas a.area.number x.ends x.ends_now in
+    let low = slice_get_within x.dedb.areas a.area.number x.ends x.ends_now in
     let counts : area_count db a.area.dedb ≡ length x.dedb.areas = ap count_in x.now in
     let has : HasArea db (place_of a.def a.area) = omega (arith, low, counts) in
     subst (HasArea db) (sym a.is_place) has

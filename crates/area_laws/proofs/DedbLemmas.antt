@@ -1,5 +1,5 @@
 -- One database of a state is changed.
-use Rattle.std.proofs.Common.{◌≡◌, ◌≢◌, inl, inr, ℕ, zero, suc, ◌<◌, List, [], ◌∷◌, length, Some, None, Option, refl, sym, ◌∙◌, ap, arith}
+use Rattle.std.proofs.Common.{◌≡◌, ◌≢◌, inl, inr, ℕ, ◌<◌, List, [], length, Some, None, Option, refl, sym, ◌∙◌, ap, arith}
 use Rattle.std.specs.Prelude.{option_map, slice_get, slice_set, unwrap_or}
 use Rattle.std.specs.Option.{option_map_or}
 use Rattle.std.proofs.lemmas.Bool.{cases_eq}
@@ -9,8 +9,8 @@ use Rattle.fp_model.specs.declared.database.Dedb.{Dedb}
 use Rattle.fp_model.specs.declared.database.Root.{Root}
 use Rattle.fp_model.specs.Commit.{ends_at, with_dedb, with_ends}
 use Rattle.fp_model.specs.State.{Area, first_ends, roots_at}
-use Rattle.state_laws.proofs.Ranges.{get_set_other, get_set_same, length_set}
 use Rattle.area_laws.specs.Areas.{area_count}
+use Rattle.plain_laws.proofs.Places.{get_other, get_set, get_set_same, length_set}
 
 -- ---- what is read of a database, if it is there
 
@@ -41,7 +41,7 @@ others_stay k f db j ne = by (slice_get db.dedbs k)
     by : (o : Option Dedb) → slice_get (option_map_or (λ (d : Dedb). slice_set db.dedbs k (f d)) o db.dedbs) j
         ≡ slice_get db.dedbs j
     by None = refl
-    by (Some d) = get_set_other db.dedbs k j (f d) ne
+    by (Some d) = get_other db.dedbs k j (f d) ne
 
 -- what doesn't differ in the changed database stays
 pub stays_in : {X : Type 0} (k : ℕ) (f : Dedb → Dedb) (db : Db) (g : Option Dedb → X) (j : ℕ)
@@ -80,12 +80,7 @@ other_ends area ends db other ne =
     stays_in area.dedb (λ d. record d { areas = slice_set d.areas area.number ends }) db (ends_in other.number)
     other.dedb
     (λ e d. ap (λ (o : Option AreaEnds). unwrap_or o first_ends)
-    (get_set_other d.areas area.number other.number ends (ne e)))
-
-get_set_within : {X : Type 0} (xs : List X) (i : ℕ) (a : X) → i < length xs → slice_get (slice_set xs i a) i ≡ Some a
-get_set_within [] i a lt = absurd (omega (arith, lt))
-get_set_within (x ∷ xs) zero a lt = refl
-get_set_within (x ∷ xs) (suc i) a lt = get_set_within xs i a (omega (arith, lt))
+    (get_other d.areas area.number other.number ends (ne e)))
 
 -- and its own are these, if it is there
 pub its_ends : (area : Area) (ends : AreaEnds) (db : Db) → area.number < area_count db area.dedb
@@ -99,4 +94,4 @@ its_ends area ends db lt =
         ≡ ends
     by None lt = absurd (omega (arith, lt))
     by (Some d) lt = ap (λ (o : Option AreaEnds). unwrap_or o first_ends)
-        (get_set_within d.areas area.number ends lt)
+        (get_set d.areas area.number ends lt)

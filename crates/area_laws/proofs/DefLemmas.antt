@@ -16,9 +16,9 @@ use Rattle.fp_model.specs.WellFormed.{AreDefs, EachFits, HasCapacity, IsAreaDef,
 use Rattle.seq_dependents.specs.Slots.{HoldsCapacity, slots_each}
 use Rattle.area_states.specs.declared.place.Place.{Place}
 use Rattle.area_states.specs.Places.{ArePlaces, IsPlace, part_of, place_of, places_from, places_of, sequential_length}
-use Rattle.state_laws.proofs.Areas.{contains_cases, contains_nothing}
-use Rattle.state_laws.proofs.Lists.{none_is_not_some, some_is, true_is_not_false}
-use Rattle.state_laws.proofs.Stands.{get_below}
+use Rattle.state_laws.proofs.Lists.{true_is_not_false}
+use Rattle.plain_laws.proofs.Alls.{contains_cases, contains_nothing}
+use Rattle.std.proofs.lemmas.Option.{none-some, same_Some, slice_get_within}
 
 -- ---- as many slots as the capacity
 
@@ -78,11 +78,11 @@ has_first ci capacity (d ∷ ds) e = elim (cases_Bool d.sequential) [
 
 each_fits : (ci : ℕ) (types rest : List SegDef) (place k : ℕ) (def : SegDef) → EachFits ci types place rest
     → slice_get rest k ≡ Some def → stored_length types (place + k) def ≤ ci - 32
-each_fits ci types [] place k def all e = absurd (none_is_not_some def e)
+each_fits ci types [] place k def all e = absurd (none-some def e)
 each_fits ci types (d ∷ rest) place zero def all e =
     let number : place ≡ place + 0 = omega arith in
     subst (λ (n : ℕ). stored_length types n def ≤ ci - 32) number
-    (subst (λ (x : SegDef). stored_length types place x ≤ ci - 32) (some_is d def e) all.0)
+    (subst (λ (x : SegDef). stored_length types place x ≤ ci - 32) (same_Some d def e) all.0)
 each_fits ci types (d ∷ rest) place (suc k) def all e =
     let number : place + 1 + k ≡ place + suc k = omega arith in
     subst (λ (n : ℕ). stored_length types n def ≤ ci - 32) number
@@ -96,7 +96,7 @@ stored_serials types place def e = rw e refl
 first_length : (ci capacity : ℕ) (types : List SegDef) (h : HasFirst ci capacity types)
     → sequential_length types ≡ h.def.length
 first_length ci capacity types h =
-    let low = get_below types h.at h.def h.there in
+    let low = slice_get_within types h.at h.def h.there in
     let at = h.is_at in
     let less : nat_lt (position_or_len (λ (d : SegDef). d.sequential) types) (length types) ≡ true =
     grind (arith, nat_tests, low, at) in
@@ -125,7 +125,7 @@ slots_held def area fits has some =
 
 -- ---- one area
 
-size_of : (n : ℕ) → Contains (512 ∷ 1024 ∷ 2048 ∷ 4096 ∷ []) n → IsTrue (is_size n)
+pub size_of : (n : ℕ) → Contains (512 ∷ 1024 ∷ 2048 ∷ 4096 ∷ []) n → IsTrue (is_size n)
 size_of n c = elim (contains_cases 512 (1024 ∷ 2048 ∷ 4096 ∷ []) n c) [
   | inl e ↦ subst (λ (k : ℕ). IsTrue (is_size k)) e refl
   | inr c2 ↦ elim (contains_cases 1024 (2048 ∷ 4096 ∷ []) n c2) [
@@ -140,11 +140,11 @@ size_of n c = elim (contains_cases 512 (1024 ∷ 2048 ∷ 4096 ∷ []) n c) [
   ]
 ]
 
-has_type : (b : Bool) (capacity : ℕ) → HasCapacity b capacity → 0 < capacity → b ≡ true
+pub has_type : (b : Bool) (capacity : ℕ) → HasCapacity b capacity → 0 < capacity → b ≡ true
 has_type true capacity has some = refl
 has_type false capacity has some = absurd (omega (arith, has, some))
 
-is_place : (def : DedbDef) (area : Area) → IsDedbDef def → IsAreaDef def.segments area.def
+pub is_place : (def : DedbDef) (area : Area) → IsDedbDef def → IsAreaDef def.segments area.def
     → IsPlace (place_of def area)
 is_place def area good its = record {
   size = size_of def.ci good.size;

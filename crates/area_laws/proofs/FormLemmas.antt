@@ -3,7 +3,7 @@ use Rattle.std.proofs.Common.{◌≡◌, inl, inr, ℕ, suc, ◌+◌, ◌-◌, �
 use Rattle.std.specs.Prelude.{Contains, ◌&&◌, ◌==◌, nat_lt, slice_get}
 use Rattle.std.specs.List.{AllByRecursion, list_all, position_or_len}
 use Rattle.std.specs.Option.{option_map_or}
-use Rattle.std.proofs.lemmas.Bool.{cases_Bool}
+use Rattle.std.proofs.lemmas.Bool.{cases_Bool, and_from}
 use Rattle.std.proofs.lemmas.Bool.Decides.{nat_tests}
 use Rattle.fp_model.specs.declared.calls.AnchorChange.{AnchorChange}
 use Rattle.fp_model.specs.declared.calls.SeqInsert.{SeqInsert}
@@ -32,11 +32,15 @@ use Rattle.area_states.specs.Places.{has_anchor as lies_in, place_at, place_of, 
 use Rattle.area_states.specs.Changes.{IsInsertable, IsStorable, kept_root}
 use Rattle.area_states.specs.States.{newest_serial}
 use Rattle.state_laws.specs.Parts.{FitsAnchorChange, FitsSeqInsert}
-use Rattle.state_laws.proofs.Areas.{alone, database, get_contains, placed}
-use Rattle.state_laws.proofs.Lists.{all_at, both_true, first_true, none_is_not_some, second_true, some_is, true_is_not_false}
+use Rattle.state_laws.proofs.Areas.{alone, database, placed}
+use Rattle.state_laws.proofs.Lists.{all_at, true_is_not_false}
 use Rattle.state_laws.proofs.Stands.{at_area}
 use Rattle.area_laws.specs.Areas.{BringsOrder}
 use Rattle.area_laws.proofs.PlaceLemmas.{area_of_place}
+use Rattle.root_anchor.proofs.TypeLemmas.{length-is}
+use Rattle.plain_laws.proofs.Truths.{first_of_both, second_of_both}
+use Rattle.plain_laws.proofs.Alls.{get_contains}
+use Rattle.std.proofs.lemmas.Option.{none-some, same_Some}
 
 -- ---- nodes
 
@@ -52,8 +56,8 @@ module _ (types : List SegDef) where
   row_formed type (n ∷ row) all e =
       let a = (seen_as types n type).in_shape in
       let b = list_all (λ (seen : ℕ → Seen). (seen type).in_shape) (map (seen_as types) row) in
-      both_true (is_in_form types n type) (row_has_form types type row) (all.0 type (first_true a b e))
-      (row_formed type row all.1 (second_true a b e))
+      and_from (is_in_form types n type) (row_has_form types type row) (all.0 type (first_of_both a b e))
+      (row_formed type row all.1 (second_of_both a b e))
 
   rows_formed : (kinds : List ℕ) (rows : List (List Node)) → AllByRecursion (λ row. AllByRecursion IsFormed row) rows
       → are_rows types kinds (map (map (seen_as types)) rows) ≡ true → rows_have_form types kinds rows ≡ true
@@ -66,9 +70,9 @@ module _ (types : List SegDef) where
       let rest = are_rows types kinds (map (map (seen_as types)) rows) in
       let keys = ascend (map (λ (child : ℕ → Seen). key_in types type (child type).bytes) seen) in
       let shapes = list_all (λ (child : ℕ → Seen). (child type).in_shape) seen in
-      both_true (row_has_form types type row) (rows_have_form types kinds rows)
-      (row_formed type row all.0 (first_true shapes keys (first_true here rest e)))
-      (rows_formed kinds rows all.1 (second_true here rest e))
+      and_from (row_has_form types type row) (rows_have_form types kinds rows)
+      (row_formed type row all.0 (first_of_both shapes keys (first_of_both here rest e)))
+      (rows_formed kinds rows all.1 (second_of_both here rest e))
 
   nodes_of : (row : List ((n : Node) × IsFormed n)) → AllByRecursion IsFormed (map (λ e. e.0) row)
   nodes_of [] = tt
@@ -88,8 +92,8 @@ module _ (types : List SegDef) where
       let shape : (a && b) ≡ true =
       sym (ap (λ (s : ℕ → Seen). (s type).in_shape) (fold-roll-Node (ℕ → Seen) (seen_step types) f)) ∙ e in
       ap (λ (s : ℕ → Bool). s type) (fold-roll-Node (ℕ → Bool) (form_step types) f)
-      ∙ both_true a (rows_have_form types (child_types types type) rows) (first_true a b shape)
-      (rows_formed (child_types types type) rows (rows_of y.children) (second_true a b shape))
+      ∙ and_from a (rows_have_form types (child_types types type) rows) (first_of_both a b shape)
+      (rows_formed (child_types types type) rows (rows_of y.children) (second_of_both a b shape))
 
   node_formed : (n : Node) → IsFormed n
   node_formed = ind-Node IsFormed (λ x y is. subst (λ (z : Node-F Node). IsFormed (roll-Node z)) is (rolled_formed y))
@@ -134,7 +138,7 @@ has_type types item items e = by (has_sequential types) refl
     by true is = refl
     by false is =
         let first : option_map_or (λ type. has_length types type item.bytes) (sequential_type types) false ≡ true =
-        first_true (option_map_or (λ type. has_length types type item.bytes) (sequential_type types) false)
+        first_of_both (option_map_or (λ type. has_length types type item.bytes) (sequential_type types) false)
         (have_lengths types items) e in
         let none = no_type types is in
         absurd (true_is_not_false (sym first
@@ -157,14 +161,14 @@ root_storable types ends root e =
     let b = are_rows types (child_types types 0) (map (map (seen_as types)) root.children) in
     let c = are_newest_first ends.begin ends.end root.seqs in
     let d = have_lengths types root.seqs in
-    let abc = first_true (a && b && c) d e in
-    let ab = first_true (a && b) c abc in
-    let list = newest_fits types root.seqs (second_true (a && b && c) d e) in
+    let abc = first_of_both (a && b && c) d e in
+    let ab = first_of_both (a && b) c abc in
+    let list = newest_fits types root.seqs (second_of_both (a && b && c) d e) in
     let rows = rows_formed types (child_types types 0) root.children (all_formed types root.children)
-    (second_true a b ab) in
-    both_true (a && rows_have_form types (child_types types 0) root.children)
+    (second_of_both a b ab) in
+    and_from (a && rows_have_form types (child_types types 0) root.children)
     (is_newest types (newest (newest_serial root.seqs)))
-    (both_true a (rows_have_form types (child_types types 0) root.children) (first_true a b ab) rows) list
+    (and_from a (rows_have_form types (child_types types 0) root.children) (first_of_both a b ab) rows) list
 
 roots_storable : (types : List SegDef) (ends : AreaEnds) (roots : List Root)
     → list_all (is_root types ends) roots ≡ true → are_storable types (map kept_root roots) ≡ true
@@ -172,8 +176,8 @@ roots_storable types ends [] e = refl
 roots_storable types ends (r ∷ roots) e =
     let a = is_root types ends r in
     let b = list_all (is_root types ends) roots in
-    both_true (is_storable types (kept_root r)) (are_storable types (map kept_root roots))
-    (root_storable types ends r (first_true a b e)) (roots_storable types ends roots (second_true a b e))
+    and_from (is_storable types (kept_root r)) (are_storable types (map kept_root roots))
+    (root_storable types ends r (first_of_both a b e)) (roots_storable types ends roots (second_of_both a b e))
 
 -- ---- changes
 
@@ -195,19 +199,19 @@ storable_change defs set place db c good at fit =
         let x = at_area defs db good area (get_contains (areas_of defs) (set - first_area_set) area there) in
         let d = its_dedb area c.dedb c.anchor is in
         let fit_def : fit.def ≡ def =
-        some_is fit.def def (sym fit.defined ∙ ap (slice_get defs.dedbs) (sym d) ∙ defined) in
+        same_Some fit.def def (sym fit.defined ∙ ap (slice_get defs.dedbs) (sym d) ∙ defined) in
         let x_def : x.def ≡ fit.def =
-        some_is x.def fit.def (sym x.defined ∙ ap (slice_get defs.dedbs) d ∙ fit.defined) in
-        let now : x.dedb ≡ fit.dedb = some_is x.dedb fit.dedb (sym x.now ∙ ap (slice_get db.dedbs) d ∙ fit.now) in
+        same_Some x.def fit.def (sym x.defined ∙ ap (slice_get defs.dedbs) d ∙ fit.defined) in
+        let now : x.dedb ≡ fit.dedb = same_Some x.dedb fit.dedb (sym x.now ∙ ap (slice_get db.dedbs) d ∙ fit.now) in
         let there2 : Contains (areas_from 0 0 0 fit.def.areas) (alone area) =
         subst (λ (y : DedbDef). Contains (areas_from 0 0 0 y.areas) (alone area)) x_def x.there in
         let ends : slice_get fit.dedb.areas area.number ≡ Some x.ends =
         subst (λ (y : Dedb). slice_get y.areas area.number ≡ Some x.ends) now x.ends_now in
         let shape = fit.fits.in_shape (alone area) x.ends there2 ends (inside area c.dedb c.anchor is) in
         let roots : list_all (is_root fit.def.segments x.ends) c.roots ≡ true =
-        first_true (list_all (is_root fit.def.segments x.ends) c.roots)
+        first_of_both (list_all (is_root fit.def.segments x.ends) c.roots)
         (ascend (map (root_key fit.def.segments) c.roots))
-        (first_true (list_all (is_root fit.def.segments x.ends) c.roots
+        (first_of_both (list_all (is_root fit.def.segments x.ends) c.roots
         && ascend (map (root_key fit.def.segments) c.roots))
         (list_all (λ root. anchor_of fit.def (root_key fit.def.segments root) == c.anchor) c.roots) shape) in
         subst (λ (y : DedbDef). are_storable y.segments (map kept_root c.roots) ≡ true) fit_def
@@ -231,7 +235,7 @@ order_brought defs set place db c at fit =
     own area def defined is =
         let d = its_dedb area c.dedb c.anchor is in
         let same : fit.def ≡ def =
-        some_is fit.def def (sym fit.defined ∙ ap (slice_get defs.dedbs) (sym d) ∙ defined) in
+        same_Some fit.def def (sym fit.defined ∙ ap (slice_get defs.dedbs) (sym d) ∙ defined) in
         subst (λ (y : DedbDef). ascend (map (root_key y.segments) c.roots) ≡ true) same fit.fits.keys
 
 pub orders_brought : (defs : Defs) (set : ℕ) (place : Place) (db : Db) (changes : List AnchorChange)
@@ -243,16 +247,6 @@ orders_brought defs set place db (c ∷ changes) at fit =
 
 -- ---- inserts
 
--- a segment as long as its type says
-as_long : (types : List SegDef) (type : ℕ) (bytes : List ℕ) → has_length types type bytes ≡ true
-    → length bytes ≡ segment_length types type
-as_long types type bytes e = by (slice_get types type) e
-  where
-    by : (o : Option SegDef) → option_map_or (λ (def : SegDef). length bytes == def.length) o false ≡ true
-        → length bytes ≡ option_map_or (λ (def : SegDef). def.length) o 0
-    by None e = absurd (true_is_not_false (sym e))
-    by (Some def) e = grind (arith, nat_tests, e)
-
 insertable : (defs : Defs) (set : ℕ) (place : Place) (i : SeqInsert) → AreDefs defs
     → place_at (places_of defs) set ≡ Some place → FitsSeqInsert defs i → IsInsertable place i
 insertable defs set place i good at fit =
@@ -262,7 +256,7 @@ insertable defs set place i good at fit =
     let number : h.place ≡ a.area.dedb = (let d = h.its_dedb in omega (arith, d)) in
     let def_at : slice_get defs.dedbs a.area.dedb ≡ Some h.def =
     subst (λ (k : ℕ). slice_get defs.dedbs k ≡ Some h.def) number h.its_def in
-    let def_is : h.def ≡ a.def = some_is h.def a.def (sym def_at ∙ a.defined) in
+    let def_is : h.def ≡ a.def = same_Some h.def a.def (sym def_at ∙ a.defined) in
     let among : Contains (areas_from a.area.dedb 0 0 a.def.areas) a.area =
     subst (λ (d : DedbDef). Contains (areas_from a.area.dedb 0 0 d.areas) a.area) def_is h.there in
     let p = placed a.area.dedb 0 0 a.def.areas a.area among in
@@ -280,7 +274,7 @@ insertable defs set place i good at fit =
       where
         by : (b : Bool) → has_sequential types ≡ b → b ≡ true
         by true is = refl
-        by false is = absurd (none_is_not_some type (sym (no_type types is) ∙ e))
+        by false is = absurd (none-some type (sym (no_type types is) ∙ e))
 
     own : (area : Area) (def : DedbDef) → slice_get defs.dedbs area.dedb ≡ Some def
         → HasCapacity (has_sequential def.segments) area.def.capacity
@@ -289,13 +283,13 @@ insertable defs set place i good at fit =
     own area def defined capacity is =
         let d = its_dedb area i.dedb i.anchor is in
         let same : fit.def ≡ def =
-        some_is fit.def def (sym fit.defined ∙ ap (slice_get defs.dedbs) (sym d) ∙ defined) in
+        same_Some fit.def def (sym fit.defined ∙ ap (slice_get defs.dedbs) (sym d) ∙ defined) in
         let kind : sequential_type def.segments ≡ Some fit.type =
         subst (λ (y : DedbDef). sequential_type y.segments ≡ Some fit.type) same fit.kind in
         let long : has_length def.segments fit.type i.bytes ≡ true =
         subst (λ (y : DedbDef). has_length y.segments fit.type i.bytes ≡ true) same fit.long in (
           some (has_sequential def.segments) area.def.capacity capacity (typed def.segments fit.type kind),
-          as_long def.segments fit.type i.bytes long
+          length-is def.segments fit.type i.bytes long
               ∙ ap (λ (o : Option ℕ). option_map_or (segment_length def.segments) o 0) (sym kind),
         )
 

@@ -15,9 +15,9 @@ use Rattle.area_states.specs.Places.{has_anchor as lies_in, place_at, place_of, 
 use Rattle.area_states.specs.States.{AreaState}
 use Rattle.area_states.specs.Changes.{IsTooFull, ends_of, with_change, with_changes}
 use Rattle.area_states.specs.Databases.{state_of}
-use Rattle.state_laws.proofs.Lists.{none_is_not_some, some_is}
 use Rattle.area_laws.specs.Areas.{TakesAll}
 use Rattle.area_laws.proofs.PlaceLemmas.{area_of_place}
+use Rattle.std.proofs.lemmas.Option.{none-some, same_Some}
 
 -- ---- the place of an area
 
@@ -33,18 +33,18 @@ own_place : (dedb : ℕ) (d : DedbDef) (ds : List DedbDef) (own : List Area)
     → HasPlaceAmong (map (place_of d) own ++ places_from (dedb + 1) ds) n area
 own_place dedb d ds [] rest n area e = rest n area e
 own_place dedb d ds (a ∷ own) rest zero area e =
-    record { def = d; there = ap (λ (x : Area). Some (place_of d x)) (some_is a area e) }
+    record { def = d; there = ap (λ (x : Area). Some (place_of d x)) (same_Some a area e) }
 own_place dedb d ds (a ∷ own) rest (suc n) area e =
     let h = own_place dedb d ds own rest n area e in
     record { def = h.def; there = h.there }
 
 place_among : (dedb : ℕ) (defs : List DedbDef) (n : ℕ) (area : Area) → slice_get (areas_of_all dedb defs) n ≡ Some area
     → HasPlaceAmong (places_from dedb defs) n area
-place_among dedb [] n area e = absurd (none_is_not_some area e)
+place_among dedb [] n area e = absurd (none-some area e)
 place_among dedb (d ∷ ds) n area e =
     own_place dedb d ds (areas_from dedb 0 0 d.areas) (place_among (dedb + 1) ds) n area e
 
-at_set : (places : List Place) (n : ℕ) (place : Place) → slice_get places n ≡ Some place
+pub at_set : (places : List Place) (n : ℕ) (place : Place) → slice_get places n ≡ Some place
     → place_at places (first_area_set + n) ≡ Some place
 at_set places n place e =
     let not : nat_lt (first_area_set + n) first_area_set ≡ false = grind (arith, nat_tests) in
@@ -73,9 +73,9 @@ module _ (db : Db) (inserts : List SeqInsert) where
       → is_full area ≡ true
       → first_full db inserts set areas
       ≡ Some (FillsPart (set + k) (ends_at db area).begin (ends_at db area).end (count_at area))
-  full_at set [] k area at none full = absurd (none_is_not_some area at)
+  full_at set [] k area at none full = absurd (none-some area at)
   full_at set (a ∷ areas) zero area at none full =
-      let same : a ≡ area = some_is a area at in
+      let same : a ≡ area = same_Some a area at in
       let first : is_full a ≡ true = subst (λ (x : Area). is_full x ≡ true) (sym same) full in
       let number : set ≡ set + 0 = omega arith in
       rw first (ap (λ (n : ℕ). Some (FillsPart n (ends_at db a).begin (ends_at db a).end (count_at a))) number

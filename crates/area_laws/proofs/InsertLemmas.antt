@@ -25,12 +25,13 @@ use Rattle.area_states.specs.Changes.{numbered_at as numbered_here, with_changes
 use Rattle.area_states.specs.Databases.{HasAnchorOf, state_of}
 use Rattle.area_states.proofs.Changing.{in_area}
 use Rattle.area_states.proofs.DbLemmas.{all_changed}
-use Rattle.state_laws.proofs.Ranges.{get_set_other, get_set_same}
 use Rattle.state_laws.proofs.Nodes.{none_found}
-use Rattle.state_laws.proofs.Stands.{found_passes, found_there, same_area}
+use Rattle.state_laws.proofs.Stands.{same_area}
 use Rattle.area_laws.specs.Areas.{HasArea, area_count}
 use Rattle.area_laws.proofs.DedbLemmas.{changed_here, count_in, ends_in, ends_keep_count, ends_keep_roots, its_ends, other_ends, roots_in, stays_in}
 use Rattle.area_laws.proofs.PlaceLemmas.{one_taker}
+use Rattle.plain_laws.proofs.Alls.{found_is_there, found_passes}
+use Rattle.plain_laws.proofs.Places.{get_other, get_set_same}
 
 -- ---- a dependent in front of those of its root
 
@@ -65,7 +66,7 @@ module _ (defs : Defs) (i : SeqInsert) (item : SeqItem) (db : Db) where
       by : (o : Option (List Root)) → slice_get (option_map_or (λ (roots : List Root). slice_set d.anchors i.anchor
           (with_item (types_of defs i.dedb) i.key item roots)) o d.anchors) anchor ≡ slice_get d.anchors anchor
       by None = refl
-      by (Some roots) = get_set_other d.anchors i.anchor anchor
+      by (Some roots) = get_other d.anchors i.anchor anchor
           (with_item (types_of defs i.dedb) i.key item roots) ne
 
   abbrev pub after : Db
@@ -181,7 +182,7 @@ module _ (defs : Defs) (area : Area) (def : DedbDef) (there : Contains (areas_of
           none_found (λ a. takes a i) (areas_of defs) area none there in
           rw out (same_itself (state_of its_place db))
       by (Some other) found =
-          let c = found_there (λ a. takes a i) (areas_of defs) other found in
+          let c = found_is_there (λ a. takes a i) (areas_of defs) other found in
           let t = found_passes (λ a. takes a i) (areas_of defs) other found in
           elim (cases_Bool (lies_in its_place i.dedb i.anchor)) [
             | inl is ↦

@@ -28,12 +28,16 @@ use Rattle.area_states.specs.Databases.{HasAnchorOf, state_of}
 use Rattle.area_states.proofs.Changing.{in_area, ordered_insert}
 use Rattle.state_laws.specs.Changes.{HasNoneOrNow}
 use Rattle.state_laws.specs.Parts.{FitsAnchorChange, changes_ascend}
-use Rattle.state_laws.proofs.Areas.{alone, get_contains}
-use Rattle.state_laws.proofs.Lists.{first_true, second_true, some_is}
-use Rattle.state_laws.proofs.Stands.{at_area, get_there}
+use Rattle.state_laws.proofs.Areas.{alone}
+use Rattle.state_laws.proofs.Stands.{at_area}
 use Rattle.root_anchor.specs.Chains.{anchor_count}
 use Rattle.area_laws.specs.Areas.{AreSentTo, BringsOrder}
 use Rattle.area_laws.proofs.PlaceLemmas.{area_of_place}
+use Rattle.state_laws.proofs.Committing.{others_ascend}
+use Rattle.plain_laws.proofs.Truths.{first_of_both, second_of_both}
+use Rattle.plain_laws.proofs.Alls.{get_contains}
+use Rattle.plain_laws.proofs.Places.{get_there}
+use Rattle.std.proofs.lemmas.Option.{same_Some}
 
 -- ---- keys
 
@@ -52,7 +56,7 @@ shaped_order defs set place db good at =
         → ascend (map (root_key def.segments) (roots_at db area.dedb (area.first_anchor + k))) ≡ true
     own area def defined there k lt =
         let x = at_area defs db good area (get_contains (areas_of defs) (set - first_area_set) area there) in
-        let same : x.def ≡ def = some_is x.def def (sym x.defined ∙ defined) in
+        let same : x.def ≡ def = same_Some x.def def (sym x.defined ∙ defined) in
         let roots_are : roots_at db area.dedb (area.first_anchor + k)
         ≡ unwrap_or (slice_get x.dedb.anchors (area.first_anchor + k)) [] =
         rw x.now refl in
@@ -69,8 +73,8 @@ shaped_order defs set place db good at =
             → ascend (map (root_key d.segments) (unwrap_or o [])) ≡ true
         by d None ends each = refl
         by d (Some roots) ends each =
-            second_true (list_all (is_root d.segments ends) roots) (ascend (map (root_key d.segments) roots))
-            (first_true (list_all (is_root d.segments ends) roots && ascend (map (root_key d.segments) roots))
+            second_of_both (list_all (is_root d.segments ends) roots) (ascend (map (root_key d.segments) roots))
+            (first_of_both (list_all (is_root d.segments ends) roots && ascend (map (root_key d.segments) roots))
             (list_all (λ root. anchor_of d (root_key d.segments root) == area.first_anchor + k) roots)
             (each roots refl))
 
@@ -78,10 +82,10 @@ all_equal : (def : DedbDef) (anchor : ℕ) (roots : List Root)
     → list_all (λ root. anchor_of def (root_key def.segments root) == anchor) roots ≡ true → AreSentTo def anchor roots
 all_equal def anchor [] e = tt
 all_equal def anchor (r ∷ roots) e =
-    let first = first_true (anchor_of def (root_key def.segments r) == anchor)
+    let first = first_of_both (anchor_of def (root_key def.segments r) == anchor)
     (list_all (λ root. anchor_of def (root_key def.segments root) == anchor) roots) e in (
       grind (arith, nat_tests, first),
-      all_equal def anchor roots (second_true (anchor_of def (root_key def.segments r) == anchor)
+      all_equal def anchor roots (second_of_both (anchor_of def (root_key def.segments r) == anchor)
           (list_all (λ root. anchor_of def (root_key def.segments root) == anchor) roots) e),
     )
 
@@ -107,7 +111,7 @@ shaped_keys defs set place db def number good at defined below =
         → AreSentTo def (area.first_anchor + k) (roots_at db area.dedb (area.first_anchor + k))
     own area defined there k lt =
         let x = at_area defs db good area (get_contains (areas_of defs) (set - first_area_set) area there) in
-        let same : x.def ≡ def = some_is x.def def (sym x.defined ∙ defined) in
+        let same : x.def ≡ def = same_Some x.def def (sym x.defined ∙ defined) in
         let roots_are : roots_at db area.dedb (area.first_anchor + k)
         ≡ unwrap_or (slice_get x.dedb.anchors (area.first_anchor + k)) [] =
         rw x.now refl in
@@ -126,7 +130,7 @@ shaped_keys defs set place db def number good at defined below =
         by d None ends each = tt
         by d (Some roots) ends each =
             all_equal d (area.first_anchor + k) roots
-            (second_true (list_all (is_root d.segments ends) roots && ascend (map (root_key d.segments) roots))
+            (second_of_both (list_all (is_root d.segments ends) roots && ascend (map (root_key d.segments) roots))
             (list_all (λ root. anchor_of d (root_key d.segments root) == area.first_anchor + k) roots)
             (each roots refl))
 
@@ -174,19 +178,14 @@ all_behind : (c : AnchorChange) (changes : List AnchorChange) → changes_ascend
     → AllByRecursion (λ d. change_precedes c d ≡ true) changes
 all_behind c [] e = tt
 all_behind c (d ∷ changes) e =
-    let first = first_true (change_precedes c d) (changes_ascend (d ∷ changes)) e in
-    let rest = second_true (change_precedes c d) (changes_ascend (d ∷ changes)) e in
+    let first = first_of_both (change_precedes c d) (changes_ascend (d ∷ changes)) e in
+    let rest = second_of_both (change_precedes c d) (changes_ascend (d ∷ changes)) e in
     (first, on changes (all_behind d changes rest) first)
   where
     on : (ds : List AnchorChange) → AllByRecursion (λ x. change_precedes d x ≡ true) ds → change_precedes c d ≡ true
         → AllByRecursion (λ x. change_precedes c x ≡ true) ds
     on [] all first = tt
     on (x ∷ ds) all first = (precedes_on c d x first all.0, on ds all.1 first)
-
-ascend_rest : (c : AnchorChange) (changes : List AnchorChange) → changes_ascend (c ∷ changes) ≡ true
-    → changes_ascend changes ≡ true
-ascend_rest c [] e = refl
-ascend_rest c (d ∷ changes) e = second_true (change_precedes c d) (changes_ascend (d ∷ changes)) e
 
 -- a state has at the anchors of changes what databases have there
 abbrev HaveNow : Place → AreaState → Db → List AnchorChange → Type 0
@@ -209,7 +208,7 @@ keeps_one : (defs : Defs) (db : Db) (place : Place) (state : AreaState) (c : Anc
     → state.roots (c.anchor - place.first_anchor) ≡ roots_at db c.dedb c.anchor)
     → KeepsLists place state c
 keeps_one defs db place state c fit has now is =
-    let same : has.dedb ≡ fit.dedb = some_is has.dedb fit.dedb (sym has.is_dedb ∙ fit.now) in
+    let same : has.dedb ≡ fit.dedb = same_Some has.dedb fit.dedb (sym has.is_dedb ∙ fit.now) in
     let low : c.anchor < length fit.dedb.anchors = subst (λ (d : Dedb). c.anchor < length d.anchors) same has.below in
     let at = get_there fit.dedb.anchors c.anchor low in
     let roots_are : roots_at db c.dedb c.anchor ≡ at.0 =
@@ -247,7 +246,7 @@ keeps_all : (defs : Defs) (db : Db) (place : Place) (changes : List AnchorChange
 keeps_all defs db place [] state fit has order now = tt
 keeps_all defs db place (c ∷ changes) state fit has order now = (
   keeps_one defs db place state c fit.0 has.0 now.0,
-  keeps_all defs db place changes (with_change place state c) fit.1 has.1 (ascend_rest c changes order)
+  keeps_all defs db place changes (with_change place state c) fit.1 has.1 (others_ascend c changes order)
       (still_now place state db c changes (all_behind c changes order) now.1),
 )
 

@@ -12,8 +12,9 @@ use Rattle.fp_model.specs.Commit.{takes}
 use Rattle.fp_model.specs.State.{Area, anchors_in, areas_from, areas_of, areas_of_all, first_area_set, has_anchor}
 use Rattle.area_states.specs.declared.place.Place.{Place}
 use Rattle.area_states.specs.Places.{place_at, place_of, places_from, places_of}
-use Rattle.state_laws.proofs.Areas.{database, get_contains, lies_in, lies_outside, placed, same_or_apart}
-use Rattle.state_laws.proofs.Lists.{none_is_not_some, some_is}
+use Rattle.state_laws.proofs.Areas.{database, lies_in, lies_outside, placed, same_or_apart}
+use Rattle.plain_laws.proofs.Alls.{get_contains}
+use Rattle.std.proofs.lemmas.Option.{none-some, same_Some}
 
 -- ---- places and areas side by side
 
@@ -50,7 +51,7 @@ among_own dedb d ds (a ∷ own) all rest zero place e = record {
   at = 0;
   its_dedb = (let i = all.0 in omega (arith, i));
   defined = refl;
-  is_place = sym (some_is (place_of d a) place e);
+  is_place = sym (same_Some (place_of d a) place e);
   there = refl;
 }
 among_own dedb d ds (a ∷ own) all rest (suc n) place e =
@@ -72,7 +73,7 @@ one_dedb dedb number before (d ∷ ds) = (refl, one_dedb dedb (number + 1) (befo
 
 among : (dedb : ℕ) (defs : List DedbDef) (n : ℕ) (place : Place) → slice_get (places_from dedb defs) n ≡ Some place
     → IsPlaceAmong dedb defs (areas_of_all dedb defs) n place
-among dedb [] n place e = absurd (none_is_not_some place e)
+among dedb [] n place e = absurd (none-some place e)
 among dedb (d ∷ ds) n place e =
     among_own dedb d ds (areas_from dedb 0 0 d.areas) (one_dedb dedb 0 0 d.areas) (among (dedb + 1) ds) n place e
 
@@ -93,7 +94,7 @@ area_of_place defs set place e = by (nat_lt set first_area_set) refl e
     by : (b : Bool) → nat_lt set first_area_set ≡ b
         → (if b then None else slice_get (places_of defs) (set - first_area_set)) ≡ Some place
         → IsAreaOf defs set place
-    by true is e = absurd (none_is_not_some place e)
+    by true is e = absurd (none-some place e)
     by false is e =
         let h = among 0 defs.dedbs (set - first_area_set) place e in
         record {
@@ -124,13 +125,13 @@ pub apart_areas : (dedb number before : ℕ) (areas : List AreaDef) (ds : List D
     → slice_get (areas_from dedb number before areas ++ areas_of_all (dedb + 1) ds) n ≡ Some a
     → slice_get (areas_from dedb number before areas ++ areas_of_all (dedb + 1) ds) m ≡ Some b → a.dedb ≡ b.dedb
     → a.number ≡ b.number → n ≡ m
-apart_areas dedb number before [] [] n m a b p q d e = absurd (none_is_not_some a p)
+apart_areas dedb number before [] [] n m a b p q d e = absurd (none-some a p)
 apart_areas dedb number before [] (f ∷ ds) n m a b p q d e =
     apart_areas (dedb + 1) 0 0 f.areas ds n m a b p q d e
 apart_areas dedb number before (f ∷ areas) ds zero zero a b p q d e = refl
 apart_areas dedb number before (f ∷ areas) ds zero (suc m) a b p q d e =
     let first : Area = record { dedb = dedb; number = number; first_anchor = before; def = f } in
-    let same : first ≡ a = some_is first a p in
+    let same : first ≡ a = same_Some first a p in
     let there =
     get_contains (areas_from dedb (number + 1) (before + anchors_in f) areas ++ areas_of_all (dedb + 1) ds) m b q in
     let d1 : dedb ≡ a.dedb = ap (λ (x : Area). x.dedb) same in
@@ -139,7 +140,7 @@ apart_areas dedb number before (f ∷ areas) ds zero (suc m) a b p q d e =
     absurd (omega (arith, n1, e, more))
 apart_areas dedb number before (f ∷ areas) ds (suc n) zero a b p q d e =
     let first : Area = record { dedb = dedb; number = number; first_anchor = before; def = f } in
-    let same : first ≡ b = some_is first b q in
+    let same : first ≡ b = same_Some first b q in
     let there =
     get_contains (areas_from dedb (number + 1) (before + anchors_in f) areas ++ areas_of_all (dedb + 1) ds) n a p in
     let d1 : dedb ≡ b.dedb = ap (λ (x : Area). x.dedb) same in
@@ -151,7 +152,7 @@ apart_areas dedb number before (f ∷ areas) ds (suc n) (suc m) a b p q d e =
 
 pub one_number : (ds : List DedbDef) (n m : ℕ) (a b : Area) → slice_get (areas_of_all 0 ds) n ≡ Some a
     → slice_get (areas_of_all 0 ds) m ≡ Some b → a.dedb ≡ b.dedb → a.number ≡ b.number → n ≡ m
-one_number [] n m a b p q d e = absurd (none_is_not_some a p)
+one_number [] n m a b p q d e = absurd (none-some a p)
 one_number (f ∷ ds) n m a b p q d e = apart_areas 0 0 0 f.areas ds n m a b p q d e
 
 -- ---- one area has an anchor
@@ -172,7 +173,7 @@ one_taker defs a b i ca cb ta tb =
     let at : hb.place ≡ ha.place = (let x = ha.its_dedb in let y = hb.its_dedb in omega (arith, da, db, x, y)) in
     let def_at : slice_get defs ha.place ≡ Some hb.def =
     subst (λ (k : ℕ). slice_get defs k ≡ Some hb.def) at hb.its_def in
-    let def_is : hb.def ≡ ha.def = some_is hb.def ha.def (sym def_at ∙ ha.its_def) in
+    let def_is : hb.def ≡ ha.def = same_Some hb.def ha.def (sym def_at ∙ ha.its_def) in
     let there : Contains (areas_from a.dedb 0 0 hb.def.areas) b =
     subst (λ (n : ℕ). Contains (areas_from n 0 0 hb.def.areas) b) (db ∙ sym da) hb.there in
     let there2 : Contains (areas_from a.dedb 0 0 ha.def.areas) b =

@@ -16,12 +16,14 @@ use Rattle.area_states.specs.Places.{place_at, place_of, places_from, places_of}
 use Rattle.area_states.specs.States.{SameState}
 use Rattle.area_states.specs.Changes.{purged as purged_here}
 use Rattle.area_states.specs.Databases.{state_of}
-use Rattle.state_laws.proofs.Areas.{AreApart, database, get_contains, same_or_apart}
-use Rattle.state_laws.proofs.Lists.{none_is_not_some, some_is}
-use Rattle.state_laws.proofs.Ranges.{get_inside, get_outside}
+use Rattle.state_laws.proofs.Areas.{AreApart, database, same_or_apart}
+use Rattle.state_laws.proofs.Ranges.{get_inside}
 use Rattle.area_laws.specs.Areas.{HasArea, HasPart, area_count}
 use Rattle.area_laws.proofs.DedbLemmas.{changed_here, count_in, ends_in, ends_keep_roots, its_ends, other_ends, roots_in, stays_in}
 use Rattle.area_laws.proofs.PlaceLemmas.{area_of_place, one_number}
+use Rattle.plain_laws.proofs.Alls.{get_contains}
+use Rattle.plain_laws.proofs.Places.{get_outside}
+use Rattle.std.proofs.lemmas.Option.{none-some, same_Some}
 
 -- ---- the roots of an area, without serials below a begin
 
@@ -129,7 +131,7 @@ sets_apart defs n m a b ne p q d =
     let at : hb.place ≡ ha.place = (let x = ha.its_dedb in let y = hb.its_dedb in omega (arith, d, x, y)) in
     let def_at : slice_get defs.dedbs ha.place ≡ Some hb.def =
     subst (λ (k : ℕ). slice_get defs.dedbs k ≡ Some hb.def) at hb.its_def in
-    let def_is : hb.def ≡ ha.def = some_is hb.def ha.def (sym def_at ∙ ha.its_def) in
+    let def_is : hb.def ≡ ha.def = same_Some hb.def ha.def (sym def_at ∙ ha.its_def) in
     let there : Contains (areas_from a.dedb 0 0 hb.def.areas) b =
     subst (λ (k : ℕ). Contains (areas_from k 0 0 hb.def.areas) b) d hb.there in
     let there2 : Contains (areas_from a.dedb 0 0 ha.def.areas) b =
@@ -155,19 +157,19 @@ purge_of defs set n db new e = by (area_of_set defs set) refl e
     at : (b : Bool) → nat_lt set first_area_set ≡ b → (area : Area)
         → (if b then None else slice_get (areas_of defs) (set - first_area_set)) ≡ Some area
         → (nat_lt 0 area.def.capacity ≡ true) × (new ≡ purged_area area n db) → IsPurgeOf defs set n db new
-    at true is area e same = absurd (none_is_not_some area e)
+    at true is area e same = absurd (none-some area e)
     at false is area e same = record { area = area; is_area = is; there = e; some = same.0; is_new = same.1 }
 
     with_part : (b : Bool) (area : Area) → (if b then Some (purged_area area n db) else None) ≡ Some new
         → (b ≡ true) × (new ≡ purged_area area n db)
-    with_part true area e = (refl, sym (some_is (purged_area area n db) new e))
-    with_part false area e = absurd (none_is_not_some new e)
+    with_part true area e = (refl, sym (same_Some (purged_area area n db) new e))
+    with_part false area e = absurd (none-some new e)
 
     by : (o : Option Area) → area_of_set defs set ≡ o
         → option_map_or (λ (area : Area). if nat_lt 0 area.def.capacity then Some (purged_area area n db) else None)
         o None ≡ Some new
         → IsPurgeOf defs set n db new
-    by None is e = absurd (none_is_not_some new e)
+    by None is e = absurd (none-some new e)
     by (Some area) is e = at (nat_lt set first_area_set) refl area is (with_part (nat_lt 0 area.def.capacity) area e)
 
 pub purge_here : (defs : Defs) (set n : ℕ) (db new : Db) (place : Place) → purged defs set n db ≡ Some new
@@ -176,7 +178,7 @@ pub purge_here : (defs : Defs) (set n : ℕ) (db new : Db) (place : Place) → p
 purge_here defs set n db new place e at has =
     let p = purge_of defs set n db new e in
     let a = area_of_place defs set place at in
-    let same : a.area ≡ p.area = some_is a.area p.area (sym a.there ∙ p.there) in
+    let same : a.area ≡ p.area = same_Some a.area p.area (sym a.there ∙ p.there) in
     let has2 : HasArea db (place_of a.def a.area) = subst (HasArea db) a.is_place has in
     let own = purged_own a.area n db a.def has2 in
     let own2 = subst (λ (x : Area). SameState (place_of a.def a.area)
@@ -213,12 +215,12 @@ placed_own : (d : DedbDef) (own rest : List Area) (places : List Place)
     → (k : ℕ) (area : Area) → slice_get (own ++ rest) k ≡ Some area
     → (def : DedbDef) × (slice_get (map (place_of d) own ++ places) k ≡ Some (place_of def area))
 placed_own d [] rest places later k area e = later k area e
-placed_own d (a ∷ own) rest places later zero area e = (d, ap (λ x. Some (place_of d x)) (some_is a area e))
+placed_own d (a ∷ own) rest places later zero area e = (d, ap (λ x. Some (place_of d x)) (same_Some a area e))
 placed_own d (a ∷ own) rest places later (suc k) area e = placed_own d own rest places later k area e
 
 pub placed_among : (dedb : ℕ) (ds : List DedbDef) (k : ℕ) (area : Area) → slice_get (areas_of_all dedb ds) k ≡ Some area
     → (def : DedbDef) × (slice_get (places_from dedb ds) k ≡ Some (place_of def area))
-placed_among dedb [] k area e = absurd (none_is_not_some area e)
+placed_among dedb [] k area e = absurd (none-some area e)
 placed_among dedb (d ∷ ds) k area e =
     placed_own d (areas_from dedb 0 0 d.areas) (areas_of_all (dedb + 1) ds) (places_from (dedb + 1) ds)
     (placed_among (dedb + 1) ds) k area e

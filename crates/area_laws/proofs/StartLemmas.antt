@@ -36,6 +36,7 @@ use Rattle.area_states.proofs.Frames.{kind_within}
 use Rattle.area_states.proofs.StateLemmas.{same_state}
 use Rattle.state_laws.proofs.Lists.{all_at}
 use Rattle.area_laws.specs.Starts.{AreStarts, IsStart, StartsAs, StartsControl, start_state}
+use Rattle.ci_overflow.proofs.Finds.{none_past}
 
 -- ---- empty intervals
 
@@ -69,12 +70,6 @@ none_in_control : (bytes : List ℕ) (at segment : ℕ) (content : List ℕ) →
     → HasUsed bytes at segment content → ⊥
 none_in_control bytes at segment content k u =
     not_ended u.before u.after (Used segment content) (u.tiles.untiled (rw k refl))
-
-none_past : (bytes : List ℕ) (at segment : ℕ) (content : List ℕ) → bytes ≡ [] → HasUsed bytes at segment content → ⊥
-none_past bytes at segment content e u =
-    let z : length bytes ≡ 0 = ap length e in
-    let no : is_size 0 ≡ true = subst (λ (n : ℕ). IsTrue (is_size n)) z u.tiles.size in
-    cc
 
 kind_some : (shape : Shape) (ci : ℕ) → IsTrue (is_kind (kind_at shape ci))
 kind_some shape ci =
@@ -322,7 +317,7 @@ length_listed : (n : ℕ) (f : ℕ → List ℕ) → length (listed n f) ≡ n
 length_listed zero f = refl
 length_listed (suc n) f = ap suc (length_listed n (λ i. f (suc i)))
 
-listed_at : (n : ℕ) (f : ℕ → List ℕ) (ci : ℕ) → ci < n → bytes_at (listed n f) ci ≡ f ci
+pub listed_at : (n : ℕ) (f : ℕ → List ℕ) (ci : ℕ) → ci < n → bytes_at (listed n f) ci ≡ f ci
 listed_at zero f ci lt = absurd (omega (arith, lt))
 listed_at (suc n) f zero lt = refl
 listed_at (suc n) f (suc ci) lt = listed_at n (λ i. f (suc i)) ci (omega (arith, lt))

@@ -1,6 +1,6 @@
 -- What is read of an anchor, and when none of it is at fault.
 use Rattle.std.proofs.Common.{◌≡◌, ℕ, zero, suc, ◌+◌, ◌<◌, ◌≤◌, List, [], ◌∷◌, ◌++◌, length, take, drop, refl, sym, ◌∙◌, ap, subst, arith}
-use Rattle.std.specs.Prelude.{Some, slice_get, Result, Ok, Err, IfOk}
+use Rattle.std.specs.Prelude.{Some, slice_get}
 use Rattle.std.specs.List.{AllZip}
 use Rattle.fp_model.specs.declared.database.AreaEnds.{AreaEnds}
 use Rattle.fp_model.specs.declared.database.Root.{Root}
@@ -56,13 +56,6 @@ within [] rest (suc n) x e = cc
 within (y ∷ xs) rest zero x e = omega arith
 within (y ∷ xs) rest (suc n) x e = let l = within xs rest n x e in omega (arith, l)
 
-pub zip_more : {X Y : Type 0} (P : X → Y → Type 0) (xs : List X) (ys : List Y) (x : X) (y : Y) → AllZip P xs ys → P x y
-    → AllZip P (xs ++ x ∷ []) (ys ++ y ∷ [])
-zip_more P [] [] x y all p = (p, tt)
-zip_more P [] (b ∷ ys) x y all p = absurd all
-zip_more P (a ∷ xs) [] x y all p = absurd all
-zip_more P (a ∷ xs) (b ∷ ys) x y all p = (all.0, zip_more P xs ys x y all.1 p)
-
 zip_at : {X Y : Type 0} (P : X → Y → Type 0) (xs : List X) (ys : List Y) (n : ℕ) (x : X) → AllZip P xs ys
     → slice_get xs n ≡ Some x → (y : Y) × P x y
 zip_at P [] ys n x all e = cc
@@ -117,10 +110,6 @@ readable place area anchor ci state has below (in_root bad) =
 
 -- ---- as the calls answer
 
-pub by_ok : {T E : Type 0} (r : Result T E) (P Q : T → Type 0) → IfOk r P → ((x : T) → P x → Q x) → IfOk r Q
-by_ok (Ok x) P Q p f = f x p
-by_ok (Err e) P Q p f = tt
-
 -- ends of an area that stays
 pub ends_stay : (old mid : List (List ℕ)) (ends : AreaEnds) → mid ≡ old → AreEndsOf old ends → AreEndsOf mid ends
 ends_stay old mid ends e are = subst (λ area. AreEndsOf area ends) (sym e) are
@@ -128,7 +117,3 @@ ends_stay old mid ends e are = subst (λ area. AreEndsOf area ends) (sym e) are
 pub unreadable_stays : (place : Place) (old mid : List (List ℕ)) (anchor ci : ℕ) → mid ≡ old
     → IsUnreadable place mid anchor ci → IsUnreadable place old anchor ci
 unreadable_stays place old mid anchor ci e bad = subst (λ area. IsUnreadable place area anchor ci) e bad
-
-pub none_of : {X : Type 0} (xs : List X) → length xs ≡ 0 → xs ≡ []
-none_of [] e = refl
-none_of (x ∷ xs) e = absurd (omega (arith, e))

@@ -10,7 +10,8 @@ use Rattle.fp_model.specs.declared.log.Item.{Item}
 use Rattle.area_redo.specs.Redo.{AreaBytes, names, redone_at, redone, AllBegin, Layout, count_in, interval_in, IsRedone, AreRedone, Redoes, RedoesThrough, GrowByImages, AllStandIn}
 use Rattle.area_redo.specs.Steps.{HasAreasOf, SparesAreas, SendsText}
 use Rattle.area_redo.proofs.Items.{redone_more, redone_none, redone_any, names_more}
-use Rattle.area_redo.proofs.Places.{length-read, get_or-read, interval_is, torn_other}
+use Rattle.area_redo.proofs.Places.{interval_is, torn_other}
+use Rattle.fp_site.proofs.Ranges.{get_or-read, length_read}
 
 module _ (layout : Layout) where
   -- A crash that leaves the same: more items behind the others make of the areas what they make of their bytes now. So
@@ -131,7 +132,7 @@ module _ (layout : Layout) where
         | inr none ↦
             let is = plain first law.stands.1 ci below none in
             let long : length (now set ci) ≡ layout.size set = ap length (sym is)
-            ∙ length-read (first.images set) (ci * layout.size set) (layout.size set) in
+            ∙ length_read (first.images set) (ci * layout.size set) (layout.size set) in
             redone_none set ci items (interval_in (layout.size set) image ci) none
             ∙ interval_is image (now set ci) (layout.size set) ci long
             (λ i lt. settles.bytes (ci * layout.size set + i) (get_or (now set ci) i 0)

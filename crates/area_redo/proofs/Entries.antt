@@ -1,5 +1,5 @@
 -- Items by the entries that have them.
-use Rattle.std.proofs.Common.{◌≡◌, inl, inr, ℕ, zero, suc, ◌<◌, ◌≤◌, true, false, List, [], ◌∷◌, ◌++◌, length, refl, sym, ◌∙◌, ap, subst, arith, append_assoc}
+use Rattle.std.proofs.Common.{◌≡◌, inl, inr, ℕ, zero, suc, ◌<◌, ◌≤◌, true, false, List, [], ◌∷◌, ◌++◌, length, refl, sym, ◌∙◌, subst, arith, append_assoc}
 use Rattle.std.proofs.lemmas.Bool.{cases_Bool, cases_lt, or_parts}
 use Rattle.std.proofs.lemmas.List.{append-nil}
 use Rattle.fp_model.specs.declared.log.Item.{Item}
@@ -9,11 +9,6 @@ use Rattle.area_redo.specs.Redo.{AreaBytes, names, redone, Layout, count_in, Are
 use Rattle.area_redo.specs.Standing.{behind, EachGrows, names_at}
 use Rattle.area_redo.proofs.Items.{names_more, redone_none, redone_more}
 use Rattle.area_redo.proofs.Areas.{more_redone}
-
--- the items of one list of entries after another
-pub items_more : (a b : List Entry) → items_of (a ++ b) ≡ items_of a ++ items_of b
-items_more [] b = refl
-items_more (e ∷ a) b = ap (λ l. e.items ++ l) (items_more a b) ∙ sym (append_assoc e.items (items_of a) (items_of b))
 
 -- what some entry names its list names
 pub named_from : (set ci : ℕ) (entries : List Entry) (k : ℕ) → names_at set ci entries k ≡ true

@@ -12,9 +12,10 @@ use Rattle.area_redo.specs.Standing.{behind, EachGrows, names_at, Way, all_of, s
 use Rattle.area_redo.specs.Steps.{longer}
 use Rattle.area_redo.specs.Restart.{found_bytes, IsWhole, found_way, found_owed, AreSame, tail_with}
 use Rattle.area_redo.proofs.Items.{redone_none, redone_any, redone_more, names_more}
-use Rattle.area_redo.proofs.Entries.{items_more, named_at, entries_redone, grows_first}
+use Rattle.area_redo.proofs.Entries.{named_at, entries_redone, grows_first}
 use Rattle.area_redo.proofs.Opening.{first_begins, tail_begins}
 use Rattle.area_redo.proofs.Dues.{names_within, names_behind, due_longer}
+use Rattle.model_laws.proofs.Entries.{items-append}
 
 -- the way with more entries
 abbrev with_more : Way → List Entry → Way
@@ -158,7 +159,7 @@ module _ (layout : Layout) (way : Way) (owed : Owed) (bytes : AreaBytes) (disk :
   then_bytes = behind (take n way.unsealed) bytes
 
   redone_then : AreRedone layout (items_of (tail_with n way)) then_bytes images
-  redone_then = subst (λ l. AreRedone layout l then_bytes images) (sym (items_more way.tail (take n way.unsealed)))
+  redone_then = subst (λ l. AreRedone layout l then_bytes images) (sym (items-append way.tail (take n way.unsealed)))
       (entries_redone layout (items_of way.tail) (take n way.unsealed) bytes images redone_now
       (grows_first layout (take n way.unsealed) (drop n way.unsealed) bytes
       (subst (λ l. EachGrows layout l bytes) (sym (take-append-drop n way.unsealed)) stands.grows)).0)
@@ -209,7 +210,7 @@ written_out layout way owed bytes disk set ci any law s none named below =
     ∙ sym given
     ∙ sym (redone_none set ci (items_of way.unsealed) (redone_at set ci (items_of way.tail) any) unsealed)
     ∙ sym (redone_more set ci (items_of way.tail) (items_of way.unsealed) any)
-    ∙ ap (λ l. redone_at set ci l any) (sym (items_more way.tail way.unsealed))
+    ∙ ap (λ l. redone_at set ci l any) (sym (items-append way.tail way.unsealed))
   where
     clean : owes_below (sealed_of way) owed set ci ≡ false
     clean = ap (is_below (sealed_of way)) none
@@ -231,7 +232,7 @@ written_out layout way owed bytes disk set ci any law s none named below =
       | inr other ↦
           let both : (names set ci (items_of way.tail) || names set ci (items_of way.unsealed)) ≡ true =
           sym (names_more set ci (items_of way.tail) (items_of way.unsealed))
-          ∙ ap (names set ci) (sym (items_more way.tail way.unsealed)) ∙ named in
+          ∙ ap (names set ci) (sym (items-append way.tail way.unsealed)) ∙ named in
           let neither : (names set ci (items_of way.tail) || names set ci (items_of way.unsealed)) ≡ false =
           rw (other, unsealed) refl in
           let false_true : true ≡ false = sym both ∙ neither in

@@ -81,7 +81,7 @@ begins_none set ci (item ∷ items) more none =
     rw other (begins_none set ci items more parts.1)
 
 -- a list that doesn't name the interval
-begins_nothing : (set ci : ℕ) (items : List Item) → names set ci items ≡ false → begins_with_image set ci items ≡ true
+pub begins_nothing : (set ci : ℕ) (items : List Item) → names set ci items ≡ false → begins_with_image set ci items ≡ true
 begins_nothing set ci [] none = refl
 begins_nothing set ci (item ∷ items) none =
     let parts = or_parts (names_interval set ci item) (names set ci items) none in

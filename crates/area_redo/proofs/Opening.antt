@@ -12,13 +12,14 @@ use Rattle.area_redo.specs.Standing.{behind, EachGrows, names_at, Way, all_of, s
 use Rattle.area_redo.specs.Steps.{next_place, longer, with_sealed, with_mark, from_mark, SparesAreas}
 use Rattle.area_redo.proofs.Items.{begins_first}
 use Rattle.area_redo.proofs.Areas.{write_redoes, write_through, sync_redoes, spared_redoes, later_redoes}
-use Rattle.area_redo.proofs.Entries.{items_more, named_from, entries_redone, grows_first}
+use Rattle.area_redo.proofs.Entries.{named_from, entries_redone, grows_first}
 use Rattle.area_redo.proofs.Dues.{names_before, names_drop}
+use Rattle.model_laws.proofs.Entries.{items-append}
 
 -- where a list begins well its first part does
 pub first_begins : (a b : List Entry) → AllBegin (items_of (a ++ b)) → AllBegin (items_of a)
 first_begins a b all set ci = begins_first set ci (items_of a) (items_of b)
-    (sym (ap (begins_with_image set ci) (items_more a b)) ∙ all set ci)
+    (sym (ap (begins_with_image set ci) (items-append a b)) ∙ all set ci)
 
 module _ (layout : Layout) (way : Way) (owed : Owed) (bytes : AreaBytes) where
   pub tail_begins : Owes way owed → AllBegin (items_of way.tail)
@@ -108,7 +109,7 @@ module _ (layout : Layout) (way : Way) (owed : Owed) (bytes : AreaBytes) where
     where
       split : items_of way.tail ≡ items_of (take (way.mark - way.count) way.tail) ++ items_of (since_mark way)
       split = ap items_of (sym (take-append-drop (way.mark - way.count) way.tail))
-          ∙ items_more (take (way.mark - way.count) way.tail) (since_mark way)
+          ∙ items-append (take (way.mark - way.count) way.tail) (since_mark way)
 
       of_due : (set ci : ℕ) (o : Option Due) → owed set ci ≡ o → is_below (sealed_of way) o ≡ true
           → names set ci (items_of (since_mark way)) ≡ true
@@ -257,7 +258,7 @@ module _ (layout : Layout) (way : Way) (owed : Owed) (bytes : AreaBytes) where
       items : items_of (drop (way.mark - way.count) (way.tail ++ take n way.unsealed)) ≡ items_of (since_mark way) ++
           items_of (take n way.unsealed)
       items = ap items_of (drop-append-le (way.mark - way.count) way.tail (take n way.unsealed) (low s.owes))
-          ∙ items_more (since_mark way) (take n way.unsealed)
+          ∙ items-append (since_mark way) (take n way.unsealed)
 
   -- and an entry more
   pub may_published : (e : Entry) (disk : Disk) → Stands layout way owed bytes disk → MayOpen layout way owed bytes disk

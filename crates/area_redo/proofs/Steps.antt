@@ -15,8 +15,9 @@ use Rattle.area_redo.specs.Steps.{next_place, longer, with_sealed}
 use Rattle.area_redo.proofs.Items.{begins_named, begins_none, begins_first}
 use Rattle.area_redo.proofs.Places.{interval_written, interval_other, written_reaches, broken_other}
 use Rattle.area_redo.proofs.Areas.{write_redoes}
-use Rattle.area_redo.proofs.Entries.{items_more, named_from, named_at, behind_none, grows_more, grows_first, grown_named, entries_redone}
+use Rattle.area_redo.proofs.Entries.{named_from, named_at, behind_none, grows_more, grows_first, grown_named, entries_redone}
 use Rattle.area_redo.proofs.Dues.{names_before, names_behind, names_drop, below_with, below_earlier, owed_below, all_longer, due_longer, waits_longer}
+use Rattle.model_laws.proofs.Entries.{items-append}
 
 -- an entry behind a list that begins well, whose later part names what it doesn't begin with an image
 begins_on : (items later : List Item) (e : Entry) → AllBegin items
@@ -38,7 +39,7 @@ dropped_named set ci n entries is =
     named_from set ci entries (n + found.0) (sym (names_drop set ci n entries found.0) ∙ found.2)
 
 pub items_one : (entries : List Entry) (e : Entry) → items_of (entries ++ e ∷ []) ≡ items_of entries ++ e.items
-items_one entries e = items_more entries (e ∷ []) ∙ ap (λ l. items_of entries ++ l) (append-nil e.items)
+items_one entries e = items-append entries (e ∷ []) ∙ ap (λ l. items_of entries ++ l) (append-nil e.items)
 
 module _ (layout : Layout) (way : Way) (owed : Owed) (bytes : AreaBytes) where
   -- A transaction's entry is appended, and its intervals are published
@@ -120,7 +121,7 @@ module _ (layout : Layout) (way : Way) (owed : Owed) (bytes : AreaBytes) where
     };
     grows = parts.1;
     redoes = λ snap left. subst (λ l. AreRedone layout l (behind (take n way.unsealed) bytes) snap.images)
-        (sym (items_more way.tail (take n way.unsealed)))
+        (sym (items-append way.tail (take n way.unsealed)))
         (entries_redone layout (items_of way.tail) (take n way.unsealed) bytes snap.images
         (s.redoes snap left) parts.0);
     stand = λ set. record {
@@ -190,7 +191,7 @@ module _ (layout : Layout) (way : Way) (owed : Owed) (bytes : AreaBytes) where
   wrote_redoes set ci due old new s is below law law2 more =
       write_redoes layout (items_of way.tail) bytes set ci old new law law2
       (λ a b. begins_first a b (items_of way.tail) (items_of way.unsealed)
-      (sym (ap (begins_with_image a b) (items_more way.tail way.unsealed)) ∙ s.owes.all_begin a b))
+      (sym (ap (begins_with_image a b) (items-append way.tail way.unsealed)) ∙ s.owes.all_begin a b))
       (tail_named set ci due (s.owes.each set ci due is) below) more s.redoes
 
   without_other : (set ci other_set other : ℕ) → ((other_set == set) && (other == ci)) ≡ false

@@ -1,15 +1,10 @@
 -- What there is of an interval.
 use Rattle.std.proofs.Common.{◌≡◌, ℕ, ◌*◌, List, length, refl}
-use Rattle.std.specs.Prelude.{Option, Some, None, IsSome, Result, Ok, Err, OnOk, OnErr}
+use Rattle.std.specs.Prelude.{Option, Some, None, Result, Ok, Err, OnOk, OnErr}
 use Rattle.fp_site.specs.Disk.{read_range}
 use Rattle.ci_pool.specs.declared.cell.Waiting.{Waiting}
 use Rattle.ci_pool.specs.Held.{Held, pending_at, bytes_of, bytes_or, newest_in, HasSize}
-use Rattle.ci_pool.proofs.Ranges.{length_read}
-
--- what is there
-pub there : {T : Type 0} (o : Option T) → IsSome o → (x : T) × (o ≡ Some x)
-there None is = cc
-there (Some x) is = (x, refl)
+use Rattle.fp_site.proofs.Ranges.{length_read}
 
 -- an answer's two cases
 pub by_answer : {T E : Type 0} (r : Result T E) (A B P : Type 0) → OnOk r A → OnErr r B → (A → P) → (B → P) → P

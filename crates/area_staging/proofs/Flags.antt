@@ -10,6 +10,8 @@ use Rattle.fp_model.specs.declared.log.Item.{Item}
 use Rattle.fp_model.specs.declared.log.Item.TheVariants.{Segment, Image, Range}
 use Rattle.area_staging.specs.Flags.{AreFlagged, AreNoted, IsFlagged}
 use Rattle.area_staging.specs.Items.{HasFlag, flag_at, is_imaged}
+use Rattle.plain_laws.proofs.Places.{get_other, get_set_same, length_set}
+use Rattle.plain_laws.proofs.Numbers.{other_number, same_number}
 
 -- a flag more says false
 pub flag_more : (flags : List Bool) (k : ℕ) → flag_at (Some (flags ++ false ∷ [])) k ≡ flag_at (Some flags) k
@@ -32,30 +34,10 @@ none_flagged imaged none set ci = elim (cases_Bool (nat_lt set first_area_set)) 
 
 -- ---- one more interval with an item
 
-get_here : {X : Type 0} (xs : List X) (n : ℕ) (x y : X) → slice_get xs n ≡ Some y
-    → slice_get (slice_set xs n x) n ≡ Some x
-get_here [] n x y e = cc
-get_here (z ∷ xs) zero x y e = refl
-get_here (z ∷ xs) (suc n) x y e = get_here xs n x y e
-
-get_other : {X : Type 0} (xs : List X) (n m : ℕ) (x : X) → (m ≡ n → ⊥)
-    → slice_get (slice_set xs n x) m ≡ slice_get xs m
-get_other [] n m x ne = refl
-get_other (z ∷ xs) zero zero x ne = absurd (ne refl)
-get_other (z ∷ xs) zero (suc m) x ne = refl
-get_other (z ∷ xs) (suc n) zero x ne = refl
-get_other (z ∷ xs) (suc n) (suc m) x ne = get_other xs n m x (λ e. ne (ap suc e))
-
 there_at : (flags : List Bool) (k : ℕ) → k < length flags → (b : Bool) × (slice_get flags k ≡ Some b)
 there_at [] k lt = absurd (omega (arith, lt))
 there_at (f ∷ flags) zero lt = (f, refl)
 there_at (f ∷ flags) (suc k) lt = there_at flags k (omega (arith, lt))
-
-same_is : (a b : ℕ) → a ≡ b → (a == b) ≡ true
-same_is a b e = grind (arith, nat_tests, e)
-
-other_is : (a b : ℕ) → (a ≡ b → ⊥) → (a == b) ≡ false
-other_is a b n = grind (arith, nat_tests, n)
 
 flag_of : (flags : List Bool) (ci k : ℕ) → ci < length flags
     → flag_at (Some (slice_set flags ci true)) k ≡ ((k == ci) || flag_at (Some flags) k)
@@ -63,11 +45,11 @@ flag_of flags ci k lt = elim (cases_eq k ci) [
   | inl e ↦
       let was = there_at flags ci lt in
       let here : slice_get (slice_set flags ci true) k ≡ Some true =
-      ap (slice_get (slice_set flags ci true)) e ∙ get_here flags ci true was.0 was.1 in
-      ap (λ o. unwrap_or o false) here ∙ sym (ap (λ b. b || flag_at (Some flags) k) (same_is k ci e))
+      ap (slice_get (slice_set flags ci true)) e ∙ get_set_same flags ci true was.0 was.1 in
+      ap (λ o. unwrap_or o false) here ∙ sym (ap (λ b. b || flag_at (Some flags) k) (same_number k ci e))
   | inr ne ↦
       ap (λ o. unwrap_or o false) (get_other flags ci k true ne)
-      ∙ sym (ap (λ b. b || flag_at (Some flags) k) (other_is k ci ne))
+      ∙ sym (ap (λ b. b || flag_at (Some flags) k) (other_number k ci ne))
 ]
 
 pub flag_noted : (imaged after : List (List Bool)) (set ci : ℕ) (flags : List Bool) → first_area_set ≤ set
@@ -78,7 +60,7 @@ flag_noted imaged after set ci flags area is below e s k =
     ap (λ l. is_imaged l s k) e ∙ elim (cases_Bool (nat_lt s first_area_set)) [
       | inl low ↦
           let ne : s ≡ set → ⊥ = λ q. (let lt : s < first_area_set = grind (arith, nat_tests) in omega (arith, lt, area, q)) in
-          rw (low, other_is s set ne) refl
+          rw (low, other_number s set ne) refl
       | inr high ↦
           let from : first_area_set ≤ s = grind (arith, nat_tests) in
           elim (cases_eq s set) [
@@ -87,22 +69,17 @@ flag_noted imaged after set ci flags area is below e s k =
                 let now : slice_get (slice_set imaged (set - first_area_set) (slice_set flags ci true)) (s - first_area_set)
                 ≡ Some (slice_set flags ci true) =
                 ap (slice_get (slice_set imaged (set - first_area_set) (slice_set flags ci true))) n
-                ∙ get_here imaged (set - first_area_set) (slice_set flags ci true) flags is in
+                ∙ get_set_same imaged (set - first_area_set) (slice_set flags ci true) flags is in
                 let old : slice_get imaged (s - first_area_set) ≡ Some flags = ap (slice_get imaged) n ∙ is in
-                rw (high, same_is s set q, now, old) (flag_of flags ci k below)
+                rw (high, same_number s set q, now, old) (flag_of flags ci k below)
             | inr ne ↦
                 let other : slice_get (slice_set imaged (set - first_area_set) (slice_set flags ci true)) (s - first_area_set)
                 ≡ slice_get imaged (s - first_area_set) =
                 get_other imaged (set - first_area_set) (s - first_area_set) (slice_set flags ci true)
                 (λ q. ne (omega (arith, q, from, area))) in
-                rw (high, other_is s set ne, other) refl
+                rw (high, other_number s set ne, other) refl
           ]
     ]
-
-set_length : {X : Type 0} (xs : List X) (n : ℕ) (x : X) → length (slice_set xs n x) ≡ length xs
-set_length [] n x = refl
-set_length (z ∷ xs) zero x = refl
-set_length (z ∷ xs) (suc n) x = ap suc (set_length xs n x)
 
 -- each interval with a flag has one still
 pub still_flagged : (imaged after : List (List Bool)) (set ci : ℕ) (flags : List Bool)
@@ -113,14 +90,14 @@ still_flagged imaged after set ci flags is e s k has = elim (cases_eq (s - first
   | inl n ↦
       let both : Some has.flags ≡ Some flags = sym has.is ∙ ap (slice_get imaged) n ∙ is in
       let same : has.flags ≡ flags = cc in
-      let long = set_length flags ci true in
+      let long = length_set flags ci true in
       let below = has.below in
       let l : length has.flags ≡ length flags = ap length same in
       record {
         flags = slice_set flags ci true;
         is = ap (λ l. slice_get l (s - first_area_set)) e
             ∙ ap (slice_get (slice_set imaged (set - first_area_set) (slice_set flags ci true))) n
-            ∙ get_here imaged (set - first_area_set) (slice_set flags ci true) flags is;
+            ∙ get_set_same imaged (set - first_area_set) (slice_set flags ci true) flags is;
         below = omega (arith, below, long, l);
       }
   | inr ne ↦ record {

@@ -9,7 +9,7 @@ use Rattle.area_staging.specs.declared.extent.Extent.{Extent}
 use Rattle.area_staging.specs.Changing.{IsLeastOf}
 use Rattle.area_staging.specs.inside.Changing.{IsItemFor}
 use Rattle.area_staging.specs.Items.{DiffersAtEnds, DiffersIn, IsItemOf, items_in}
-use Rattle.area_staging.proofs.Orders.{all_join}
+use Rattle.plain_laws.proofs.Alls.{all_append}
 
 -- one that stood has no item since the mark where neither is said
 flag_here : (flag : Bool) (ci count : ℕ) → (flag && nat_lt ci count) ≡ false → ci < count → flag ≡ false
@@ -58,5 +58,5 @@ least_more imaged area bytes ci new items after None step e all =
     subst (AllByRecursion (IsLeastOf area.count imaged bytes)) (sym (e ∙ append-nil items)) all
 least_more imaged area bytes ci new items after (Some item) step e all =
     subst (AllByRecursion (IsLeastOf area.count imaged bytes)) (sym e)
-    (all_join (IsLeastOf area.count imaged bytes) items (item ∷ []) all
+    (all_append (IsLeastOf area.count imaged bytes) items (item ∷ []) all
     (least_one area.count imaged bytes area.set ci new (imaged ci && nat_lt ci area.count) item refl step.0, tt))

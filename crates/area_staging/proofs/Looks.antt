@@ -1,7 +1,8 @@
 -- Calls that change no area, one after another.
-use Rattle.std.proofs.Common.{◌≡◌, ℕ, sym, ◌∙◌, ap, arith}
+use Rattle.std.proofs.Common.{◌≡◌, ℕ, sym, ◌∙◌, ap}
 use Rattle.fp_site.specs.Disk.{Disk, IsLawful}
 use Rattle.fp_site.proofs.Runs.{stays_then}
+use Rattle.fp_lists.proofs.ContinuedLemmas.{continued_both}
 use Rattle.ci_pool.specs.Cells.{cell_at}
 use Rattle.ci_pool.specs.Held.{Held, waiting_of, staged_of, pending_at, staged_at}
 use Rattle.area_staging.specs.Looking.{LooksAt}
@@ -13,15 +14,12 @@ module _ {S : Type 0} (told : S → Type 0) (disk : S → Disk) (faults holds : 
       → LooksAt told disk faults holds keeps set size a b p q → LooksAt told disk faults holds keeps set size b c q r
       → LooksAt told disk faults holds keeps set size a c p r
   looks_then lawful a b c p q r first second = record {
-    tells = λ t. second.tells (first.tells t);
-    stays = λ t. stays_then (disk a) (disk b) (disk c) (lawful a t) (lawful b (first.tells t)) (first.stays t)
-        (second.stays (first.tells t));
-    later = omega (arith, first.later, second.later);
-    same = second.same ∙ first.same;
-    known = λ s k. second.known s (first.known s k);
+    continued = continued_both told faults holds keeps a b c first.continued second.continued;
+    stays = λ t. stays_then (disk a) (disk b) (disk c) (lawful a t) (lawful b (first.continued.still_told t))
+        (first.stays t) (second.stays (first.continued.still_told t));
     cells = second.cells ∙ first.cells;
     sizes = λ n m same was. second.sizes n m same (first.sizes n m same was);
-    clean = λ t was. second.clean (first.tells t) (first.clean t was);
+    clean = λ t was. second.clean (first.continued.still_told t) (first.clean t was);
   }
 
 -- of the same data set and size
@@ -29,11 +27,8 @@ pub looks_as : {S : Type 0} (told : S → Type 0) (disk : S → Disk) (faults ho
     (set set2 size size2 : ℕ) (a b : S) (p q : Held) → set ≡ set2 → size ≡ size2
     → LooksAt told disk faults holds keeps set size a b p q → LooksAt told disk faults holds keeps set2 size2 a b p q
 looks_as told disk faults holds keeps set set2 size size2 a b p q e e2 looks = record {
-  tells = looks.tells;
+  continued = looks.continued;
   stays = looks.stays;
-  later = looks.later;
-  same = looks.same;
-  known = looks.known;
   cells = looks.cells;
   sizes = λ s n same was. looks.sizes s n (λ is. same (is ∙ e) ∙ sym e2) was;
   clean = looks.clean;

@@ -8,18 +8,9 @@ use Rattle.fp_model.specs.declared.log.Item.{Item}
 use Rattle.fp_model.specs.declared.log.Item.TheVariants.{Segment, Image, Range}
 use Rattle.area_staging.specs.Changing.{IsFitFor}
 use Rattle.area_staging.specs.inside.Changing.{AllBefore}
+use Rattle.plain_laws.proofs.Alls.{all_append, all_weaker}
 
 -- ---- one of a list
-
-pub all_then : {X : Type 0} (P Q : X → Type 0) (xs : List X) → ((x : X) → P x → Q x) → AllByRecursion P xs
-    → AllByRecursion Q xs
-all_then P Q [] f all = tt
-all_then P Q (x ∷ xs) f all = (f x all.0, all_then P Q xs f all.1)
-
-pub all_join : {X : Type 0} (P : X → Type 0) (xs ys : List X) → AllByRecursion P xs → AllByRecursion P ys
-    → AllByRecursion P (xs ++ ys)
-all_join P [] ys a b = b
-all_join P (x ∷ xs) ys a b = (a.0, all_join P xs ys a.1 b)
 
 -- ---- intervals one after another
 
@@ -100,7 +91,7 @@ pub before_all_fit : (items more : List Item) (set size : ℕ) → AllBefore set
     → AllByRecursion (λ x. AllByRecursion (λ y. precedes x y ≡ true) more) items
 before_all_fit [] more set size before fit = tt
 before_all_fit (x ∷ items) more set size before fit = (
-  all_then (IsFitFor set size) (λ y. precedes x y ≡ true) more
+  all_weaker (IsFitFor set size) (λ y. precedes x y ≡ true) more
       (λ y f. before_fit (item_target x) set size y before.0 f) fit,
   before_all_fit items more set size before.1 fit,
 )
@@ -115,19 +106,19 @@ fit_before set size s k (Range t ci at bytes) lt fit = next_set t ci s k (let e 
 pub all_fit_before : (set size s k : ℕ) (items : List Item) → set < s → AllByRecursion (IsFitFor set size) items
     → AllBefore s k items
 all_fit_before set size s k items lt fit =
-    all_then (IsFitFor set size) (λ item. target_precedes (item_target item) (OfInterval s k) ≡ true) items
+    all_weaker (IsFitFor set size) (λ item. target_precedes (item_target item) (OfInterval s k) ≡ true) items
     (λ item f. fit_before set size s k item lt f) fit
 
 -- one interval's item more
 pub before_push : (items : List Item) (item : Item) (set ci k : ℕ) → item_target item ≡ OfInterval set ci → ci < k
     → AllBefore set k items → AllBefore set k (items ++ item ∷ [])
 before_push items item set ci k is lt all =
-    all_join (λ x. target_precedes (item_target x) (OfInterval set k) ≡ true) items (item ∷ []) all
+    all_append (λ x. target_precedes (item_target x) (OfInterval set k) ≡ true) items (item ∷ []) all
     (ap (λ t. target_precedes t (OfInterval set k)) is ∙ next_number set ci k lt, tt)
 
 pub ascends_one : (items : List Item) (item : Item) (set ci : ℕ) → item_target item ≡ OfInterval set ci
     → AllBefore set ci items → is_ascending items ≡ true → is_ascending (items ++ item ∷ []) ≡ true
 ascends_one items item set ci is before up =
     ascends_push items item up
-    (all_then (λ x. target_precedes (item_target x) (OfInterval set ci) ≡ true) (λ x. precedes x item ≡ true) items
+    (all_weaker (λ x. target_precedes (item_target x) (OfInterval set ci) ≡ true) (λ x. precedes x item ≡ true) items
     (λ x h. ap (target_precedes (item_target x)) is ∙ h) before)

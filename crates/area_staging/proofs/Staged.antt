@@ -1,5 +1,5 @@
 -- The intervals of an area under staged changes: read, put and added.
-use Rattle.std.proofs.Common.{inl, inr, ◌+◌, [], ◌∷◌, set, ◌++◌, ◌≡◌, ℕ, zero, suc, ◌<◌, List, length, refl, sym, ◌∙◌, ap, subst, arith}
+use Rattle.std.proofs.Common.{inl, inr, ◌+◌, [], ◌∷◌, set, ◌++◌, ◌≡◌, ℕ, suc, ◌<◌, List, length, refl, sym, ◌∙◌, ap, subst, arith}
 use Rattle.std.specs.Prelude.{Option, Some, None, IsSome}
 use Rattle.std.proofs.lemmas.Bool.{cases_eq, cases_lt}
 use Rattle.fp_site.specs.Disk.{Disk, IsLawful}
@@ -7,11 +7,11 @@ use Rattle.fp_site.specs.Site.{ReadsNothing}
 use Rattle.ci_pool.specs.Cells.{cell_at}
 use Rattle.ci_pool.specs.Held.{Held, SameAtHand, held_at, waiting_of, bytes_of, bytes_or, interval_in, newest_in}
 use Rattle.held_intervals.specs.Holding.{Changes, held_or, listed, Fit}
-use Rattle.held_intervals.proofs.Holds.{listed_same, fit_put, fit_more}
+use Rattle.held_intervals.proofs.Holds.{listed_same, fit_put, fit_more, listed_more, listed_set}
 use Rattle.area_staging.specs.Looking.{LooksAt}
 use Rattle.area_staging.specs.Staging.{staged_or_newest, staged_area, IsToldPool, Grows, AllAtHand}
-use Rattle.area_staging.proofs.Data.{there}
 use Rattle.area_staging.proofs.Looks.{looks_then, looks_as}
+use Rattle.plain_laws.proofs.Options.{is_some_of, some_value}
 
 -- ---- one interval
 
@@ -72,18 +72,6 @@ module _ {S : Type 0} (told : S → Type 0) (disk : S → Disk) (faults holds : 
 
 -- ---- one that is put
 
-listed_set : (n : ℕ) (f g : ℕ → List ℕ) (i : ℕ) (x : List ℕ) → g i ≡ x → ((k : ℕ) → (k ≡ i → ⊥) → g k ≡ f k)
-    → listed n g ≡ set (listed n f) i x
-listed_set zero f g i x here other = refl
-listed_set (suc n) f g zero x here other =
-    let rest = listed_same n (λ k. g (suc k)) (λ k. f (suc k)) (λ k lt. other (suc k) (λ e. omega arith)) in
-    cc
-listed_set (suc n) f g (suc i) x here other =
-    let first = other 0 (λ e. omega arith) in
-    let rest = listed_set n (λ k. f (suc k)) (λ k. g (suc k)) i x here
-    (λ k ne. other (suc k) (λ e. ne (omega arith))) in
-    cc
-
 pub area_put : (count : ℕ) (before after : Changes) (pool : Held) (contents : ℕ → List ℕ) (set_ size ci : ℕ)
     (bytes : List ℕ) → after ci ≡ Some bytes → ((k : ℕ) → (k ≡ ci → ⊥) → after k ≡ before k)
     → staged_area count after pool contents set_ size ≡ set (staged_area count before pool contents set_ size) ci bytes
@@ -94,10 +82,6 @@ area_put count before after pool contents set_ size ci bytes is others =
     (λ k ne. ap (λ o. held_or o (newest_in pool contents set_ k size)) (others k ne))
 
 -- ---- one more
-
-listed_more : (n : ℕ) (f : ℕ → List ℕ) → listed (suc n) f ≡ listed n f ++ f n ∷ []
-listed_more zero f = refl
-listed_more (suc n) f = ap (λ l. f 0 ∷ l) (listed_more n (λ i. f (suc i)))
 
 pub area_more : (count : ℕ) (before after : Changes) (pool : Held) (contents : ℕ → List ℕ) (set_ size : ℕ)
     (bytes : List ℕ) → after count ≡ Some bytes → ((k : ℕ) → (k ≡ count → ⊥) → after k ≡ before k)
@@ -121,14 +105,10 @@ fit_one_more count size before after bytes fit long is others =
 
 -- ---- what is staged grows
 
-some_of : {T : Type 0} (o : Option T) (x : T) → o ≡ Some x → IsSome o
-some_of (Some y) x e = refl
-some_of None x e = absurd cc
-
 still_some : (before after : Changes) (i : ℕ) (bytes : List ℕ) → after i ≡ Some bytes
     → ((k : ℕ) → (k ≡ i → ⊥) → after k ≡ before k) → (k : ℕ) → IsSome (before k) → IsSome (after k)
 still_some before after i bytes is others k was = elim (cases_eq k i) [
-  | inl e ↦ some_of (after k) bytes (ap after e ∙ is)
+  | inl e ↦ is_some_of (after k) bytes (ap after e ∙ is)
   | inr ne ↦ subst IsSome (sym (others k ne)) was
 ]
 
@@ -147,7 +127,7 @@ pub grows_more : (old_count count : ℕ) (old before after : Changes) (bytes : L
 grows_more old_count count old before after bytes grows is others = record {
   no_fewer = let n = grows.no_fewer in omega (arith, n);
   fresh = λ k from below. elim (cases_eq k count) [
-    | inl e ↦ some_of (after k) bytes (ap after e ∙ is)
+    | inl e ↦ is_some_of (after k) bytes (ap after e ∙ is)
     | inr ne ↦ still_some before after count bytes is others k (grows.fresh k from (omega (arith, below, ne)))
   ];
   stay = λ k was. still_some before after count bytes is others k (grows.stay k was);
@@ -182,7 +162,7 @@ pub still_there : (before pool : Held) (set_ ci first_count count : ℕ) (first_
     → AllAtHand before set_ first_count → Grows first_count count first_staged staged → SameAtHand before pool
     → ci < count → staged ci ≡ None → (bytes : List ℕ) × (held_at pool set_ ci ≡ Some bytes)
 still_there before pool set_ ci first_count count first_staged staged all grows same below none =
-    let w = there (held_at before set_ ci) (all ci old) in
+    let w = some_value (held_at before set_ ci) (all ci old) in
     (w.0, same set_ ci ∙ w.1)
   where
     none_there : (o : Option (List ℕ)) → o ≡ None → IsSome o → ⊥

@@ -1,8 +1,9 @@
 -- What stays while changes are staged.
-use Rattle.std.proofs.Common.{◌≡◌, ◌≢◌, ℕ, List, refl, ◌∙◌, ap, subst, arith}
+use Rattle.std.proofs.Common.{◌≡◌, ◌≢◌, ℕ, List, refl, ◌∙◌, ap, subst}
 use Rattle.std.specs.Prelude.{Contains}
 use Rattle.fp_site.specs.Disk.{Disk, IsLawful}
 use Rattle.fp_site.proofs.Runs.{stays_then}
+use Rattle.fp_lists.proofs.ContinuedLemmas.{continued_both}
 use Rattle.ci_pool.specs.Held.{Held, HasSize, bytes_of, bytes_or, interval_in, newest_in, pending_at, staged_at}
 use Rattle.area_staging.specs.Changing.{Shows, Stages}
 use Rattle.area_staging.specs.Looking.{LooksAt, looks_none}
@@ -14,11 +15,8 @@ module _ {S : Type 0} (told : S → Type 0) (disk : S → Disk) (faults holds : 
   pub stages_looked : (a b : S) (p q : Held) → LooksAt told disk faults holds keeps set size a b p q
       → Stages told disk faults holds keeps set size a b p q
   stages_looked a b p q look = record {
-    tells = look.tells;
+    continued = look.continued;
     stays = look.stays;
-    later = look.later;
-    same = look.same;
-    known = look.known;
     pending = λ s k. same_pending p q look.cells s k;
     others = λ s k ne. same_staged p q look.cells s k;
     sizes = look.sizes;
@@ -34,16 +32,13 @@ module _ {S : Type 0} (told : S → Type 0) (disk : S → Disk) (faults holds : 
       → Stages told disk faults holds keeps set size a b p q → Stages told disk faults holds keeps set size b c q r
       → Stages told disk faults holds keeps set size a c p r
   stages_then lawful a b c p q r first second = record {
-    tells = λ t. second.tells (first.tells t);
-    stays = λ t. stays_then (disk a) (disk b) (disk c) (lawful a t) (lawful b (first.tells t)) (first.stays t)
-        (second.stays (first.tells t));
-    later = omega (arith, first.later, second.later);
-    same = second.same ∙ first.same;
-    known = λ s k. second.known s (first.known s k);
+    continued = continued_both told faults holds keeps a b c first.continued second.continued;
+    stays = λ t. stays_then (disk a) (disk b) (disk c) (lawful a t) (lawful b (first.continued.still_told t))
+        (first.stays t) (second.stays (first.continued.still_told t));
     pending = λ s k. second.pending s k ∙ first.pending s k;
     others = λ s k ne. second.others s k ne ∙ first.others s k ne;
     sizes = λ n m same was. second.sizes n m same (first.sizes n m same was);
-    clean = λ t was. second.clean (first.tells t) (first.clean t was);
+    clean = λ t was. second.clean (first.continued.still_told t) (first.clean t was);
   }
 
   -- an interval of this data set is staged behind a look
@@ -53,11 +48,8 @@ module _ {S : Type 0} (told : S → Type 0) (disk : S → Disk) (faults holds : 
       → ((s k : ℕ) → s ≢ set → staged_at r s k ≡ staged_at q s k)
       → Stages told disk faults holds keeps set size a b p r
   stages_one a b p q r look same list sizes others = record {
-    tells = look.tells;
+    continued = look.continued;
     stays = look.stays;
-    later = look.later;
-    same = look.same;
-    known = look.known;
     pending = λ s k. same s k ∙ same_pending p q look.cells s k;
     others = λ s k ne. others s k ne ∙ same_staged p q look.cells s k;
     sizes = λ s n e was. sizes s n e (look.sizes s n e was);

@@ -1,8 +1,7 @@
 -- One changed interval more.
 use Rattle.std.proofs.Common.{◌≡◌, ◌≢◌, inl, inr, ℕ, ◌+◌, ◌<◌, ◌≤◌, ◌*◌, ◌^◌, Bool, true, false, List, [], ◌∷◌, ◌++◌, ◌-◌, length, take, drop, refl, sym, ◌∙◌, ap, subst, arith}
-use Rattle.std.specs.Prelude.{◌==◌, ◌&&◌, ◌||◌, if◌then◌else◌, nat_lt, Option, Some, None, IsSome, IfSome}
+use Rattle.std.specs.Prelude.{◌==◌, ◌&&◌, if◌then◌else◌, nat_lt, Option, Some, None, IsSome, IfSome}
 use Rattle.std.specs.List.{AllByRecursion}
-use Rattle.std.specs.Map.{lookup}
 use mathlib.Core.Path.{fun_ext}
 use Rattle.std.proofs.lemmas.Bool.{cases_Bool, cases_eq, cases_lt}
 use Rattle.std.proofs.lemmas.Bool.Decides.{nat_tests}
@@ -24,23 +23,12 @@ use Rattle.area_staging.specs.Flags.{AreFlagged, IsFlagged}
 use Rattle.area_staging.specs.Items.{HasFlag, IsChange, IsItemOf, items_in}
 use Rattle.area_staging.proofs.Flags.{all_flagged}
 use Rattle.area_staging.proofs.ItemLemmas.{names_item, put_item}
-use Rattle.area_staging.proofs.Orders.{all_join, ascends_one, before_push}
+use Rattle.area_staging.proofs.Orders.{ascends_one, before_push}
+use Rattle.plain_laws.proofs.Alls.{all_append}
+use Rattle.plain_laws.proofs.Truths.{and_false, and_true, or_false}
+use Rattle.plain_laws.proofs.Numbers.{lt_false, lt_true}
 
 -- ---- the item of an interval
-
-and_true : (b : Bool) → (b && true) ≡ b
-and_true true = refl
-and_true false = refl
-
-and_false : (b : Bool) → (b && false) ≡ false
-and_false true = refl
-and_false false = refl
-
-is_below : (a b : ℕ) → a < b → nat_lt a b ≡ true
-is_below a b lt = grind (arith, nat_tests, lt)
-
-not_below : (a b : ℕ) → b ≤ a → nat_lt a b ≡ false
-not_below a b le = grind (arith, nat_tests, le)
 
 -- of one that stood, as it is changed
 pub changed_item : (imaged : Bool) (area : Extent) (ci : ℕ) (old new : List ℕ) (o : Option Item) → ci < area.count
@@ -48,7 +36,7 @@ pub changed_item : (imaged : Bool) (area : Extent) (ci : ℕ) (old new : List �
 changed_item imaged area ci old new None below change = (below, change)
 changed_item imaged area ci old new (Some item) below change =
     let flag : (imaged && nat_lt ci area.count) ≡ imaged =
-    ap (λ b. imaged && b) (is_below ci area.count below) ∙ and_true imaged in
+    ap (λ b. imaged && b) (lt_true ci area.count below) ∙ and_true imaged in
     (subst (λ b. IsItemOf b area.set ci old new item) (sym flag) change.1, λ lt. change.0)
 
 -- of one that is new
@@ -56,7 +44,7 @@ pub new_item : (imaged : Bool) (area : Extent) (ci : ℕ) (old new : List ℕ) (
     → item ≡ Image area.set ci new → IsItemFor imaged area ci old new (Some item)
 new_item imaged area ci old new item from is =
     let flag : (imaged && nat_lt ci area.count) ≡ false =
-    ap (λ b. imaged && b) (not_below ci area.count from) ∙ and_false imaged in
+    ap (λ b. imaged && b) (lt_false ci area.count from) ∙ and_false imaged in
     (subst (λ b. IsItemOf b area.set ci old new item) (sym flag) is, λ lt. absurd (omega (arith, lt, from)))
 
 -- with the same flag
@@ -95,21 +83,17 @@ put_for imaged area ci old new item is long = elim (cases_lt ci area.count) [
   | inl lt ↦ put_item (imaged && nat_lt ci area.count) area.set ci old new item (long lt) is.0
   | inr from ↦
       let flag : (imaged && nat_lt ci area.count) ≡ false =
-      ap (λ b. imaged && b) (not_below ci area.count from) ∙ and_false imaged in
+      ap (λ b. imaged && b) (lt_false ci area.count from) ∙ and_false imaged in
       let image : item ≡ Image area.set ci new = subst (λ b. IsItemOf b area.set ci old new item) flag is.0 in
       ap (λ i. put i old) image
 ]
 
-image_then : (flag : Bool) (set ci : ℕ) (old new : List ℕ) (item : Item) → flag ≡ false
+pub image_then : (flag : Bool) (set ci : ℕ) (old new : List ℕ) (item : Item) → flag ≡ false
     → IsItemOf flag set ci old new item → is_image item ≡ true
 image_then false set ci old new item e is = ap is_image is
 image_then true set ci old new item e is = absurd cc
 
 -- ---- lists of items
-
-or_false : (b : Bool) → (b || false) ≡ b
-or_false true = refl
-or_false false = refl
 
 here_or : (s k set ci : ℕ) → (s ≡ set) → (k ≡ ci) → (s == set && k == ci) ≡ true
 here_or s k set ci e f = grind (arith, nat_tests, e, f)
@@ -243,7 +227,7 @@ module _ (imaged : ℕ → Bool) (area : Extent) (bytes : ℕ → List ℕ) (ci 
       fresh = λ k from some. elim (cases_eq k ci) [
         | inl e ↦
             let flag : (imaged ci && nat_lt ci area.count) ≡ false =
-            ap (λ b. imaged ci && b) (not_below ci area.count (omega (arith, e, from))) ∙ and_false (imaged ci) in
+            ap (λ b. imaged ci && b) (lt_false ci area.count (omega (arith, e, from))) ∙ and_false (imaged ci) in
             let image = image_then (imaged ci && nat_lt ci area.count) area.set ci (bytes ci) new item flag step.0 in
             record {
               named = ap (λ i. names area.set i (items ++ item ∷ [])) e ∙ named_here;
@@ -295,12 +279,6 @@ module _ (imaged : ℕ → Bool) (area : Extent) (bytes : ℕ → List ℕ) (ci 
 pub some_bytes : (o : Option (List ℕ)) (b : List ℕ) → o ≡ Some b → IsSome o
 some_bytes (Some x) b e = refl
 some_bytes None b e = absurd cc
-
--- a map without entries has nothing at any key
-pub no_entries : {X : Type 0} (test : ℕ → Bool) (es : List (ℕ × X)) → (0 < length es → false ≡ true)
-    → lookup test es ≡ None
-no_entries test [] none = refl
-no_entries test (e ∷ es) none = let both = none (omega arith) in absurd cc
 
 abbrev pub not_left : Option (List ℕ) → Option (List ℕ) → Option (List ℕ)
 not_left None all = all
@@ -371,7 +349,7 @@ fit_more area ci items after None fit e all =
     subst (AllByRecursion (IsFitFor area.set area.size)) (sym (e ∙ append-nil items)) all
 fit_more area ci items after (Some item) fit e all =
     subst (AllByRecursion (IsFitFor area.set area.size)) (sym e)
-    (all_join (IsFitFor area.set area.size) items (item ∷ []) all (fit.0, tt))
+    (all_append (IsFitFor area.set area.size) items (item ∷ []) all (fit.0, tt))
 
 -- they ascend
 pub order_more : (area : Extent) (ci : ℕ) (items after : List Item) (o : Option Item) → IsFitItem area ci o
@@ -413,5 +391,5 @@ flags_more before after area ci items more None fit e from kept has all =
     subst (AreFlagged after) (sym (e ∙ append-nil items)) (all_flagged before after kept items all)
 flags_more before after area ci items more (Some item) fit e from kept has all =
     subst (AreFlagged after) (sym e)
-    (all_join (IsFlagged after) items (item ∷ []) (all_flagged before after kept items all)
+    (all_append (IsFlagged after) items (item ∷ []) (all_flagged before after kept items all)
     (flag_one after area ci item fit from has, tt))

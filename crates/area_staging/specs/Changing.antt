@@ -1,6 +1,7 @@
 -- The changed intervals of an area, staged in the pool, and their items.
 use Rattle.std.specs.Prelude.{◌≡◌, ◌≢◌, ⊤, ℕ, ◌+◌, ◌*◌, ◌<◌, ◌≤◌, ◌^◌, Bool, true, false, List, length, IsSome, Some, None}
 use Rattle.fp_site.specs.Disk.{Disk, Stays}
+use Rattle.fp_lists.specs.Continued.{IsContinued}
 use Rattle.fp_model.specs.Items.{begins_with_image}
 use Rattle.fp_model.specs.declared.log.Item.{Item}
 use Rattle.fp_model.specs.declared.log.Item.TheVariants.{Segment, Image, Range}
@@ -17,11 +18,8 @@ use Rattle.area_staging.specs.Staging.{IsToldPool}
 -- sets; its clean intervals may be others, of the data sets' bytes and of their sizes still.
 pub record Stages {S : Type 0} (told : S → Type 0) (disk : S → Disk) (faults holds : S → ℕ) (keeps : S → S → Type 0)
     (set size : ℕ) (old new : S) (before after : Held) : Type 0 where
-  pub tells : told old → told new
+  pub continued : IsContinued told faults holds keeps old new
   pub stays : told old → Stays (disk old) (disk new)
-  pub later : faults old ≤ faults new
-  pub same : holds new ≡ holds old
-  pub known : (first : S) → keeps first old → keeps first new
   pub pending : (s k : ℕ) → pending_at after s k ≡ pending_at before s k
   pub others : (s k : ℕ) → s ≢ set → staged_at after s k ≡ staged_at before s k
   pub sizes : (s n : ℕ) → (s ≡ set → n ≡ size) → HasSize s n before → HasSize s n after

@@ -4,11 +4,11 @@ use Rattle.std.specs.Prelude.{Option, Some, None, IsSome}
 use Rattle.fp_site.specs.Disk.{Disk, read_range}
 use Rattle.fp_site.specs.Site.{ReadsNothing}
 use Rattle.ci_space.specs.Calls.{HaveSize}
-use Rattle.ci_pool.proofs.Ranges.{length_read}
 use Rattle.ci_pool.specs.declared.cell.Waiting.{Waiting}
 use Rattle.ci_pool.specs.Held.{Held, SameAtHand, held_at, pending_at, bytes_of, bytes_or, newest_in, IsClean, HasSize}
 use Rattle.held_intervals.specs.Holding.{Changes, held_or, listed, Fit}
 use Rattle.area_staging.specs.Looking.{LooksAt, looks_none}
+use Rattle.fp_site.proofs.Ranges.{length_read}
 
 -- an interval as it is staged, else as the newest entry left it
 abbrev pub staged_or_newest : Changes → Held → (ℕ → List ℕ) → ℕ → ℕ → ℕ → List ℕ

@@ -2,25 +2,26 @@
 use Rattle.std.proofs.Common.{◌≡◌, ◌⊎◌, inl, inr, ℕ, zero, suc, ◌+◌, ◌<◌, true, false, List, [], ◌∷◌, ◌++◌, map, length, refl, sym, ◌∙◌, ap, subst, arith}
 use Rattle.std.specs.Prelude.{Some, slice_get, get_or}
 use Rattle.std.specs.List.{AllByRecursion}
-use Rattle.std.proofs.lemmas.Option.{get_or_from_slice_get}
+use Rattle.std.proofs.lemmas.Option.{get_or_from_slice_get, none-some, same_Some}
 use Rattle.fp_model.specs.declared.database.Root.{Root}
 use Rattle.fp_model.specs.declared.database.SeqItem.{SeqItem}
 use Rattle.fp_model.specs.declared.definitions.SegDef.{SegDef}
 use Rattle.fp_model.specs.Order.{key_in, root_key}
 use Rattle.fp_model.specs.State.{ascend, is_below}
 use Rattle.fp_model.specs.Texts.{same_text}
-use Rattle.key_order.proofs.Ascending.{all_above, is_same, none_is_not_some, not_below_itself, not_both, same_is, some_is, tail_ascends}
+use Rattle.key_order.proofs.Ascending.{all_above, not_below_itself, not_both, tail_ascends}
 use Rattle.root_anchor.specs.Chains.{newest}
 use Rattle.area_states.specs.inside.Keys.{HasSeqsAt, IsOwnOf, IsRootOf, IsSerialFor, NoneHas}
 use Rattle.area_states.specs.States.{newest_serial}
 use Rattle.area_states.proofs.Readings.{newest_again}
+use Rattle.model_laws.proofs.Texts.{same_text_is, text_is_same}
 
 -- ---- the root of a key
 
 all_got : {X : Type 0} (P : X → Type 0) (xs : List X) (n : ℕ) (x : X) → AllByRecursion P xs → slice_get xs n ≡ Some x
     → P x
-all_got P [] n x all e = absurd (none_is_not_some x e)
-all_got P (y ∷ ys) zero x all e = subst P (some_is y x e) all.0
+all_got P [] n x all e = absurd (none-some x e)
+all_got P (y ∷ ys) zero x all e = subst P (same_Some y x e) all.0
 all_got P (y ∷ ys) (suc n) x all e = all_got P ys n x all.1 e
 
 -- a root that comes later has another key
@@ -36,12 +37,12 @@ later_differs types r roots n x up at e =
 one_of_key : (types : List SegDef) (roots : List Root) (n m : ℕ) (x y : Root)
     → ascend (map (root_key types) roots) ≡ true → slice_get roots n ≡ Some x → slice_get roots m ≡ Some y
     → root_key types x ≡ root_key types y → x ≡ y
-one_of_key types [] n m x y up at to e = absurd (none_is_not_some x at)
-one_of_key types (r ∷ roots) zero zero x y up at to e = sym (some_is r x at) ∙ some_is r y to
+one_of_key types [] n m x y up at to e = absurd (none-some x at)
+one_of_key types (r ∷ roots) zero zero x y up at to e = sym (same_Some r x at) ∙ same_Some r y to
 one_of_key types (r ∷ roots) zero (suc m) x y up at to e =
-    absurd (later_differs types r roots m y up to (ap (root_key types) (some_is r x at) ∙ e))
+    absurd (later_differs types r roots m y up to (ap (root_key types) (same_Some r x at) ∙ e))
 one_of_key types (r ∷ roots) (suc n) zero x y up at to e =
-    absurd (later_differs types r roots n x up at (ap (root_key types) (some_is r y to) ∙ sym e))
+    absurd (later_differs types r roots n x up at (ap (root_key types) (same_Some r y to) ∙ sym e))
 one_of_key types (r ∷ roots) (suc n) (suc m) x y up at to e =
     one_of_key types roots n m x y (tail_ascends (root_key types) r roots up) at to e
 
@@ -55,14 +56,14 @@ pub none_has : (types : List SegDef) (root other : Root) (key : List ℕ) (roots
 none_has types root other key roots number none is same e =
     let no = all_got (λ r. same_text (root_key types r) key ≡ false) roots number other none is in
     let yes : root_key types other ≡ key = sym (key_by_bytes types root other same) ∙ sym e in
-    not_both (sym (is_same key) ∙ ap (λ k. same_text k key) (sym yes) ∙ no)
+    not_both (sym (text_is_same key) ∙ ap (λ k. same_text k key) (sym yes) ∙ no)
 
 pub found_is : (types : List SegDef) (root other : Root) (key : List ℕ) (roots : List Root) (number found : ℕ)
     → ascend (map (root_key types) roots) ≡ true → (f : IsRootOf types key roots found)
     → slice_get roots number ≡ Some other → root.bytes ≡ other.bytes → key ≡ root_key types root → f.root ≡ other
 found_is types root other key roots number found up f is same e =
     one_of_key types roots found number f.root other up f.is_there is
-    (same_is (root_key types f.root) key f.has_key ∙ e ∙ key_by_bytes types root other same)
+    (same_text_is (root_key types f.root) key f.has_key ∙ e ∙ key_by_bytes types root other same)
 
 pub serial_found : (types : List SegDef) (root other got : Root) (key : List ℕ) (roots : List Root) (number found : ℕ)
     → ascend (map (root_key types) roots) ≡ true → IsRootOf types key roots found → got ≡ get_or roots found got
@@ -98,7 +99,7 @@ own_again begin serial root other seqs own again is =
 -- ---- one root more
 
 got_front : (xs ys : List Root) (n : ℕ) (x : Root) → slice_get xs n ≡ Some x → slice_get (xs ++ ys) n ≡ Some x
-got_front [] ys n x e = absurd (none_is_not_some x e)
+got_front [] ys n x e = absurd (none-some x e)
 got_front (y ∷ xs) ys zero x e = e
 got_front (y ∷ xs) ys (suc n) x e = got_front xs ys n x e
 

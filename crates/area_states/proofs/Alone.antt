@@ -11,7 +11,6 @@ use Rattle.fp_model.specs.declared.definitions.SegDef.{SegDef}
 use Rattle.fp_model.specs.Order.{child_types}
 use Rattle.fp_model.specs.Shape.{has_length}
 use Rattle.fp_model.specs.WellFormed.{has_sequential}
-use Rattle.key_order.proofs.Ascending.{first_of, second_of, none_is_not_some, some_is}
 use Rattle.root_changes.specs.Differing.{DifferAt, RootDiffers, RootsDiffer, own_root, lower_root}
 use Rattle.root_anchor.specs.Chains.{newest}
 use Rattle.root_anchor.specs.Differing.{ChangesAlone}
@@ -26,23 +25,25 @@ use Rattle.area_states.specs.Changes.{ChangesOne, HasListOf, OneChanges}
 use Rattle.area_states.specs.inside.Keys.{HasSeqsAt, IsKeptAs, IsOwnOf, IsSerialFor}
 use Rattle.ci_overflow.specs.Lists.{bytes_at}
 use Rattle.area_states.proofs.Readings.{newest_again, one_list, own_list, same_root, serial_reads}
+use Rattle.plain_laws.proofs.Truths.{first_of_both, second_of_both}
+use Rattle.std.proofs.lemmas.Option.{none-some, same_Some}
 
 -- ---- two lists side by side
 
 at_second : {X Y : Type 0} (R : X → Y → Type 0) (xs : List X) (ys : List Y) (n : ℕ) (y : Y) → AllZip R xs ys
     → slice_get ys n ≡ Some y → (x : X) × (slice_get xs n ≡ Some x) × R x y
-at_second R [] [] n y all e = absurd (none_is_not_some y e)
+at_second R [] [] n y all e = absurd (none-some y e)
 at_second R [] (b ∷ ys) n y all e = absurd all
 at_second R (a ∷ xs) [] n y all e = absurd all
-at_second R (a ∷ xs) (b ∷ ys) zero y all e = (a, refl, subst (R a) (some_is b y e) all.0)
+at_second R (a ∷ xs) (b ∷ ys) zero y all e = (a, refl, subst (R a) (same_Some b y e) all.0)
 at_second R (a ∷ xs) (b ∷ ys) (suc n) y all e = at_second R xs ys n y all.1 e
 
 at_first : {X Y : Type 0} (R : X → Y → Type 0) (xs : List X) (ys : List Y) (n : ℕ) (x : X) → AllZip R xs ys
     → slice_get xs n ≡ Some x → (y : Y) × (slice_get ys n ≡ Some y) × R x y
-at_first R [] [] n x all e = absurd (none_is_not_some x e)
+at_first R [] [] n x all e = absurd (none-some x e)
 at_first R [] (b ∷ ys) n x all e = absurd all
 at_first R (a ∷ xs) [] n x all e = absurd all
-at_first R (a ∷ xs) (b ∷ ys) zero x all e = (b, refl, subst (λ z. R z b) (some_is a x e) all.0)
+at_first R (a ∷ xs) (b ∷ ys) zero x all e = (b, refl, subst (λ z. R z b) (same_Some a x e) all.0)
 at_first R (a ∷ xs) (b ∷ ys) (suc n) x all e = at_first R xs ys n x all.1 e
 
 none_first : {X Y : Type 0} (R : X → Y → Type 0) (xs : List X) (ys : List Y) (n : ℕ) → AllZip R xs ys
@@ -50,7 +51,7 @@ none_first : {X Y : Type 0} (R : X → Y → Type 0) (xs : List X) (ys : List Y)
 none_first R [] [] n all e = refl
 none_first R [] (b ∷ ys) n all e = absurd all
 none_first R (a ∷ xs) [] n all e = absurd all
-none_first R (a ∷ xs) (b ∷ ys) zero all e = absurd (none_is_not_some b (sym e))
+none_first R (a ∷ xs) (b ∷ ys) zero all e = absurd (none-some b (sym e))
 none_first R (a ∷ xs) (b ∷ ys) (suc n) all e = none_first R xs ys n all.1 e
 
 none_second : {X Y : Type 0} (R : X → Y → Type 0) (xs : List X) (ys : List Y) (n : ℕ) → AllZip R xs ys
@@ -58,7 +59,7 @@ none_second : {X Y : Type 0} (R : X → Y → Type 0) (xs : List X) (ys : List Y
 none_second R [] [] n all e = refl
 none_second R [] (b ∷ ys) n all e = absurd all
 none_second R (a ∷ xs) [] n all e = absurd all
-none_second R (a ∷ xs) (b ∷ ys) zero all e = absurd (none_is_not_some a (sym e))
+none_second R (a ∷ xs) (b ∷ ys) zero all e = absurd (none-some a (sym e))
 none_second R (a ∷ xs) (b ∷ ys) (suc n) all e = none_second R xs ys n all.1 e
 
 -- ---- the own of a root
@@ -73,24 +74,24 @@ kept_newest : (types : List SegDef) (items : List SeqItem) → is_newest types i
 kept_newest types [] is = refl
 kept_newest types (item ∷ []) is =
     let both : (has_sequential types && nat_lt 0 item.serial) ≡ true =
-    first_of (has_sequential types && nat_lt 0 item.serial) (length item.bytes == 0) is in
-    let above : nat_lt 0 item.serial ≡ true = second_of (has_sequential types) (nat_lt 0 item.serial) both in
+    first_of_both (has_sequential types && nat_lt 0 item.serial) (length item.bytes == 0) is in
+    let above : nat_lt 0 item.serial ≡ true = second_of_both (has_sequential types) (nat_lt 0 item.serial) both in
     let other : (item.serial == 0) ≡ false = grind (arith, nat_tests, above) in
     let bare : item.bytes ≡ [] =
-    no_bytes item.bytes (second_of (has_sequential types && nat_lt 0 item.serial) (length item.bytes == 0) is) in
+    no_bytes item.bytes (second_of_both (has_sequential types && nat_lt 0 item.serial) (length item.bytes == 0) is) in
     let make : List ℕ → List SeqItem = λ b. record { serial = item.serial; bytes = b } ∷ [] in
     ap make bare ∙ (rw other refl)
 kept_newest types (item ∷ next ∷ items) is = cc
 
 storable_at : (types : List SegDef) (roots : List Root) (n : ℕ) (r : Root) → are_storable types roots ≡ true
     → slice_get roots n ≡ Some r → is_newest types r.seqs ≡ true
-storable_at types [] n r all e = absurd (none_is_not_some r e)
+storable_at types [] n r all e = absurd (none-some r e)
 storable_at types (x ∷ roots) zero r all e =
-    subst (λ (z : Root). is_newest types z.seqs ≡ true) (some_is x r e)
-    (second_of (has_length types 0 x.bytes && rows_have_form types (child_types types 0) x.children)
-    (is_newest types x.seqs) (first_of (is_storable types x) (are_storable types roots) all))
+    subst (λ (z : Root). is_newest types z.seqs ≡ true) (same_Some x r e)
+    (second_of_both (has_length types 0 x.bytes && rows_have_form types (child_types types 0) x.children)
+    (is_newest types x.seqs) (first_of_both (is_storable types x) (are_storable types roots) all))
 storable_at types (x ∷ roots) (suc n) r all e =
-    storable_at types roots n r (second_of (is_storable types x) (are_storable types roots) all) e
+    storable_at types roots n r (second_of_both (is_storable types x) (are_storable types roots) all) e
 
 -- the serial that a list is read from stands for it
 stands_for : (part : Part) (area : List (List ℕ)) (serial : ℕ) (items : List SeqItem) → serial < end_of area
@@ -122,7 +123,7 @@ module _ (types : List SegDef) (place : Place) (area : List (List ℕ)) (before 
       → slice_get after n ≡ Some a → IsOwnOf (begin_of area) y b → a.seqs ≡ b.seqs
   same_list n b y a at is to own =
       let has = again n y b is at own in
-      let same : a ≡ has.root = some_is a has.root (sym to ∙ has.is_there) in
+      let same : a ≡ has.root = same_Some a has.root (sym to ∙ has.is_there) in
       ap (λ (r : Root). r.seqs) same ∙ has.has_list
 
   -- one that doesn't change is stored as it was
@@ -146,8 +147,8 @@ module _ (types : List SegDef) (place : Place) (area : List (List ℕ)) (before 
   list_at n y e = go roots n lists e
     where
       go : (rs : List Root) (n : ℕ) → AllByRecursion (HasListOf now) rs → slice_get rs n ≡ Some y → HasListOf now y
-      go [] n all e = absurd (none_is_not_some y e)
-      go (r ∷ rs) zero all e = subst (HasListOf now) (some_is r y e) all.0
+      go [] n all e = absurd (none-some y e)
+      go (r ∷ rs) zero all e = subst (HasListOf now) (same_Some r y e) all.0
       go (r ∷ rs) (suc n) all e = go rs n all.1 e
 
   -- one that changes is stored with that change

@@ -9,13 +9,7 @@ use Rattle.area_states.specs.declared.place.Place.{Place}
 use Rattle.area_states.specs.Places.{layout_of}
 use Rattle.area_states.specs.States.{HasState}
 use Rattle.area_states.specs.Databases.{AreFor, ForStates, area_in, last_of, state_of}
-
--- lists of the same bytes
-pub listed_same : (n : ℕ) (f g : ℕ → List ℕ) → ((i : ℕ) → i < n → f i ≡ g i) → listed n f ≡ listed n g
-listed_same zero f g same = refl
-listed_same (suc n) f g same =
-    ap (λ x. x ∷ listed n (λ i. f (suc i))) (same 0 (omega arith))
-    ∙ ap (λ xs. g 0 ∷ xs) (listed_same n (λ i. f (suc i)) (λ i. g (suc i)) (λ i lt. same (suc i) (omega (arith, lt))))
+use Rattle.held_intervals.proofs.Holds.{listed_same}
 
 -- bytes that agree in the intervals that control counts are one area
 pub same_area : (places : List Place) (a b : AreaBytes) (set : ℕ)

@@ -18,11 +18,8 @@ use Rattle.area_states.specs.States.{AreaState, SameState}
 use Rattle.area_states.specs.Changes.{with_change, with_changes}
 use Rattle.area_states.specs.Databases.{HasAnchorOf, ends_in, state_of}
 use Rattle.area_states.proofs.Changing.{in_area}
-
-get_same : {X : Type 0} (xs : List X) (i : ℕ) (a : X) → i < length xs → slice_get (slice_set xs i a) i ≡ Some a
-get_same [] i a lt = absurd (omega arith)
-get_same (x ∷ xs) zero a lt = refl
-get_same (x ∷ xs) (suc i) a lt = get_same xs i a (omega arith)
+use Rattle.plain_laws.proofs.Places.{get_set, length_set}
+use Rattle.std.proofs.lemmas.Option.{slice_get_within}
 
 get_other : {X : Type 0} (xs : List X) (i k : ℕ) (a : X) → k ≢ i → slice_get (slice_set xs i a) k ≡ slice_get xs k
 get_other [] i k a ne = refl
@@ -30,16 +27,6 @@ get_other (x ∷ xs) zero zero a ne = absurd (ne refl)
 get_other (x ∷ xs) zero (suc k) a ne = refl
 get_other (x ∷ xs) (suc i) zero a ne = refl
 get_other (x ∷ xs) (suc i) (suc k) a ne = get_other xs i k a (λ e. ne (ap suc e))
-
-length_set : {X : Type 0} (xs : List X) (i : ℕ) (a : X) → length (slice_set xs i a) ≡ length xs
-length_set [] i a = refl
-length_set (x ∷ xs) zero a = refl
-length_set (x ∷ xs) (suc i) a = ap suc (length_set xs i a)
-
-get_within : {X : Type 0} (xs : List X) (i : ℕ) (a : X) → slice_get xs i ≡ Some a → i < length xs
-get_within [] i a is = cc
-get_within (x ∷ xs) zero a is = omega arith
-get_within (x ∷ xs) (suc i) a is = let lt = get_within xs i a is in omega (arith, lt)
 
 abbrev pub roots_in : ℕ → Option Dedb → List Root
 roots_in anchor o = option_map_or (λ (d : Dedb). unwrap_or (slice_get d.anchors anchor) []) o []
@@ -62,14 +49,14 @@ module _ (db : Db) (c : AnchorChange) (has : HasAnchorOf db c) where
 
   here : slice_get after.dedbs c.dedb ≡ Some other
   here = ap (λ l. slice_get l c.dedb) dedbs_are
-      ∙ get_same db.dedbs c.dedb other (get_within db.dedbs c.dedb has.dedb has.is_dedb)
+      ∙ get_set db.dedbs c.dedb other (slice_get_within db.dedbs c.dedb has.dedb has.is_dedb)
 
   elsewhere : (k : ℕ) → k ≢ c.dedb → slice_get after.dedbs k ≡ slice_get db.dedbs k
   elsewhere k ne = ap (λ l. slice_get l k) dedbs_are ∙ get_other db.dedbs c.dedb k other ne
 
   its_roots : roots_at after c.dedb c.anchor ≡ c.roots
   its_roots = ap (roots_in c.anchor) here
-      ∙ ap (λ o. unwrap_or o []) (get_same has.dedb.anchors c.anchor c.roots has.below)
+      ∙ ap (λ o. unwrap_or o []) (get_set has.dedb.anchors c.anchor c.roots has.below)
 
   other_roots : (dedb anchor : ℕ) → (dedb ≡ c.dedb → anchor ≢ c.anchor)
       → roots_at after dedb anchor ≡ roots_at db dedb anchor

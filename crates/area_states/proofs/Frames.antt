@@ -7,7 +7,7 @@ use Rattle.ci_space.specs.Interval.{IsInterval, IsUsed, HasUsed, Keeps, kind_of}
 use Rattle.ci_space.specs.Head.{head_of, ends_of}
 use Rattle.ci_overflow.specs.Places.{first_base, first_sequential, first_independent, base_of, kind_at}
 use Rattle.ci_overflow.specs.Lists.{bytes_at, link_of, owner_of, counted, first_free, IsOwned, HasList, IsInPlace, IsInOrder}
-use Rattle.ci_overflow.proofs.Finds.{same_or, control-first}
+use Rattle.ci_overflow.proofs.Finds.{control-first}
 use Rattle.ci_overflow.proofs.FaultLemmas.{kind-base}
 use Rattle.ci_overflow.proofs.Givings.{used-kinds}
 use Rattle.ci_overflow.proofs.Joins.{kind-behind}
@@ -20,6 +20,7 @@ use Rattle.root_anchor.specs.Formed.{IsFormed, HasRoots, Meets}
 use Rattle.root_anchor.proofs.LawLemmas.{chain_stays}
 use Rattle.root_anchor.proofs.OneChain.{one_chain}
 use Rattle.root_anchor.proofs.PutLemmas.{base_kind, used_interval, within_area}
+use Rattle.plain_laws.proofs.Numbers.{same_or_other}
 
 -- Of control the two ends change, and of the other intervals at most the sequential ones, which stay in place.
 pub record PartAlone (shape : Shape) (old new : List (List ℕ)) : Type 0 where
@@ -99,12 +100,12 @@ module _ (shape : Shape) (old new : List (List ℕ)) (it : PartAlone shape old n
       it.others (first_base shape uow) (λ e. omega (arith, e)) (λ e. omega (arith, kind, e))
 
   pub place_stays : (ci : ℕ) → ci < length old → IsInPlace shape new ci
-  place_stays ci l = elim (same_or ci 0) as (λ _. IsInPlace shape new ci) [
+  place_stays ci l = elim (same_or_other ci 0) as (λ _. IsInPlace shape new ci) [
     | inl e ↦
         let kind : kind_of (bytes_at new 0) ≡ 1 = it.head 0 (omega arith) (omega arith) ∙ control-first shape old o in
         let first : IsInPlace shape new 0 = record { is_interval = it.control; is_kind = kind } in
         subst (IsInPlace shape new) (sym e) first
-    | inr n ↦ elim (same_or (kind_at shape ci) 4) as (λ _. IsInPlace shape new ci) [
+    | inr n ↦ elim (same_or_other (kind_at shape ci) 4) as (λ _. IsInPlace shape new ci) [
       | inl four ↦ it.in_place ci four
       | inr other ↦
           let same = it.others ci n other in

@@ -37,10 +37,10 @@ use Rattle.area_states.specs.Changes.{AreOrdered, numbered_at, with_roots_at}
 use Rattle.area_states.proofs.NewSerials.{Gives, ended_at, ends, given_held, given_state, gives_alone, gives_holding}
 use Rattle.area_states.proofs.Frames.{roots_on}
 use Rattle.area_states.proofs.KeyLemmas.{got_within, keys_same}
-use Rattle.area_states.proofs.Loops.{is_it, is_other}
 use Rattle.area_states.proofs.Lists.{GoesOnHolding, all_read_on, read_on}
 use Rattle.area_states.proofs.Readings.{newest_again}
 use Rattle.area_states.proofs.StateLemmas.{same_state, store_holds, store_whole, stored_end}
+use Rattle.plain_laws.proofs.Numbers.{other_number, same_number}
 
 -- ---- roots by their numbers
 
@@ -175,7 +175,7 @@ set_state place old new state anchor number serial previous item kept k r is bel
       end = stored_end place old new is was.whole formed keeps ∙ was.end;
       anchors = λ a lt. elim (cases_eq a anchor) [
         | inl e ↦
-            let here_is : (a == anchor) ≡ true = is_it a anchor e in
+            let here_is : (a == anchor) ≡ true = same_number a anchor e in
             let this : HasAnchor place new anchor (slice_set (state.roots anchor) number (with_newest item r)) = record {
               kept = with_serial number serial kept;
               has = record {
@@ -189,7 +189,7 @@ set_state place old new state anchor number serial previous item kept k r is bel
             rw here_is (subst
             (λ b. HasAnchor place new b (slice_set (state.roots anchor) number (with_newest item r))) (sym e) this)
         | inr ne ↦
-            let other : (a == anchor) ≡ false = is_other a anchor ne in
+            let other : (a == anchor) ≡ false = other_number a anchor ne in
             let theirs = was.anchors a lt in
             let stays : HasAnchor place new a (state.roots a) = record {
               kept = theirs.kept;
@@ -300,10 +300,10 @@ inserted place old mid new state i anchor found is below same was ordered at it 
         (with_roots_at anchor roots (ended_at (state.end + 1) state)) given (record {
           roots = λ a lt. elim (cases_eq a anchor) [
             | inl q ↦
-                let here_is : (a == anchor) ≡ true = is_it a anchor q in
+                let here_is : (a == anchor) ≡ true = same_number a anchor q in
                 rw here_is (ap state.roots q)
             | inr ne ↦
-                let other : (a == anchor) ≡ false = is_other a anchor ne in
+                let other : (a == anchor) ≡ false = other_number a anchor ne in
                 rw other refl
           ];
           begin = refl;

@@ -16,8 +16,8 @@ use Rattle.area_states.specs.Places.{part_of}
 use Rattle.area_states.specs.States.{IsReadAs, newest_serial}
 use Rattle.area_states.specs.Changes.{HasListOf}
 use Rattle.area_states.specs.inside.Keys.{IsKeptAs, IsSerialFor}
-use Rattle.root_anchor.proofs.Members.{in_cases, none_in}
 use Rattle.area_states.proofs.Lists.{GoesOnHolding, read_on}
+use Rattle.plain_laws.proofs.Alls.{contains_cases, contains_nothing}
 
 -- ---- a list
 
@@ -94,11 +94,11 @@ newest_again serial = elim (cases_Bool (serial == 0)) [
 read_from : (place : Place) (area : List (List ℕ)) (kept roots : List Root) (root : Root) → 1 ≤ begin_of area
     → begin_of area ≤ end_of area → AllZip (IsReadAs place area) kept roots → Contains roots root
     → IsDown (part_of place) area (newest_serial root.seqs) root.seqs × (newest_serial root.seqs < end_of area)
-read_from place area [] [] root some ordered all in_it = absurd (none_in root in_it)
+read_from place area [] [] root some ordered all in_it = absurd (contains_nothing root in_it)
 read_from place area [] (r ∷ roots) root some ordered all in_it = absurd all
 read_from place area (k ∷ kept) [] root some ordered all in_it = absurd all
 read_from place area (k ∷ kept) (r ∷ roots) root some ordered all in_it =
-    elim (in_cases r roots root in_it) as (λ _. IsDown (part_of place) area (newest_serial root.seqs) root.seqs
+    elim (contains_cases r roots root in_it) as (λ _. IsDown (part_of place) area (newest_serial root.seqs) root.seqs
     × (newest_serial root.seqs < end_of area)) [
       | inl e ↦
           let own = from_newest (part_of place) area (newest_serial k.seqs) r.seqs some ordered all.0.list in

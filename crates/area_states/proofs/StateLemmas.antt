@@ -23,9 +23,9 @@ use Rattle.area_states.specs.States.{AreaState, HasAnchor, HasState, IsReadAs, I
 use Rattle.area_states.specs.Changes.{HasListOf, with_roots_at}
 use Rattle.area_states.specs.inside.Keys.{IsKeptAs}
 use Rattle.area_states.proofs.Frames.{kind_within}
-use Rattle.area_states.proofs.Loops.{is_it, is_other}
 use Rattle.area_states.proofs.Lists.{GoesOnHolding, all_read_on}
 use Rattle.area_states.proofs.Readings.{one_reading, stored_lists}
+use Rattle.plain_laws.proofs.Numbers.{other_number, same_number}
 
 -- ---- one state
 
@@ -179,7 +179,7 @@ stored place old new anchor roots kept state is below was own are here others ke
       end = stored_end place old new is was.whole formed keeps ∙ was.end;
       anchors = λ a lt. elim (cases_eq a anchor) [
         | inl e ↦
-            let here_is : (a == anchor) ≡ true = is_it a anchor e in
+            let here_is : (a == anchor) ≡ true = same_number a anchor e in
             let this : HasAnchor place new anchor roots = record {
               kept = kept;
               has = here;
@@ -188,7 +188,7 @@ stored place old new anchor roots kept state is below was own are here others ke
             } in
             rw here_is (subst (λ k. HasAnchor place new k roots) (sym e) this)
         | inr ne ↦
-            let other : (a == anchor) ≡ false = is_other a anchor ne in
+            let other : (a == anchor) ≡ false = other_number a anchor ne in
             let theirs = was.anchors a lt in
             let stays : HasAnchor place new a (state.roots a) = record {
               kept = theirs.kept;

@@ -1,6 +1,5 @@
 -- Terminals in their handles: what an edit of the handles makes of them.
-use Rattle.std.proofs.Common.{Box, ◌≡◌, ℕ, zero, suc, ◌<◌, ◌≤◌, List, [], ◌∷◌, ◌++◌, map, length, take, drop, refl, sym, ◌∙◌, ap, true, Some, None, slice_get, slice_set, slice_index_or, arith}
-use Rattle.std.specs.List.{insert}
+use Rattle.std.proofs.Common.{Box, ◌≡◌, ℕ, zero, suc, ◌<◌, ◌≤◌, List, [], ◌∷◌, ◌++◌, map, length, take, drop, refl, sym, ◌∙◌, ap, true, Some, None, slice_get, slice_index_or, arith}
 use Rattle.std.specs.Prelude.{if◌then◌else◌, Result, Ok, Err, IsOk, is_ok}
 use Rattle.std.specs.declared.alloc.Global.{Global}
 use Rattle.std.proofs.lemmas.List.{get_or-map}
@@ -13,20 +12,11 @@ use Rattle.balancing.specs.Numbered.{as_last, lasts_in}
 use Rattle.key_order.specs.Places.{IsPlace}
 use Rattle.balancing.specs.declared.lasts.Kept.{Kept}
 use Rattle.key_order.proofs.Ascending.{not_both, stands_there}
+use Rattle.plain_laws.proofs.Lists.{map_twice}
 
 -- the name of a terminal
 abbrev pub key : Last → List ℕ
 key last = last.lterm.0
-
-pub map_both : {X Y Z : Type 0} (f : X → Y) (g : Y → Z) (xs : List X) → map g (map f xs) ≡ map (λ x. g (f x)) xs
-map_both f g [] = refl
-map_both f g (x ∷ xs) = ap (λ ys. g (f x) ∷ ys) (map_both f g xs)
-
-pub map_set : {X Y : Type 0} (f : X → Y) (xs : List X) (n : ℕ) (x : X)
-    → map f (slice_set xs n x) ≡ slice_set (map f xs) n (f x)
-map_set f [] n x = refl
-map_set f (y ∷ ys) zero x = refl
-map_set f (y ∷ ys) (suc n) x = ap (λ zs. f y ∷ zs) (map_set f ys n x)
 
 map_append : {X Y : Type 0} (f : X → Y) (xs ys : List X) → map f (xs ++ ys) ≡ map f xs ++ map f ys
 map_append f [] ys = refl
@@ -42,17 +32,6 @@ map_drop f zero xs = refl
 map_drop f (suc n) [] = refl
 map_drop f (suc n) (x ∷ xs) = map_drop f n xs
 
-pub map_insert : {X Y : Type 0} (f : X → Y) (xs : List X) (n : ℕ) (x : X)
-    → map f (insert xs n x) ≡ insert (map f xs) n (f x)
-map_insert f xs n x =
-    map_append f (take n xs) (x ∷ drop n xs) ∙ ap (λ l. l ++ f x ∷ map f (drop n xs)) (map_take f n xs)
-    ∙ ap (λ l. take n (map f xs) ++ f x ∷ l) (map_drop f n xs)
-
--- a call that is sure to succeed did
-pub ok_then : {A E : Type 0} (r : Result (Unit {0}) E) (x a b : A) → IsOk r → x ≡ (if is_ok r then a else b) → x ≡ a
-ok_then (Ok u) x a b ok e = e
-ok_then (Err why) x a b ok e = absurd (not_both (sym ok))
-
 -- there is a terminal in each
 pub lasts_length : (handles : List (Box Kept Global)) → length (lasts_in handles) ≡ length handles
 lasts_length [] = refl
@@ -61,7 +40,7 @@ lasts_length (b ∷ bs) = ap suc (lasts_length bs)
 -- names that ascend among terminals ascend among their handles
 pub ascends_as : (handles : List (Box Kept Global)) → ascend (map (λ last. last.lterm.0) (lasts_in handles)) ≡ true
     → ascend (map (λ b. b.value.lterm.0) handles) ≡ true
-ascends_as handles up = ap ascend (sym (map_both (λ b. as_last b.value) (λ last. last.lterm.0) handles)) ∙ up
+ascends_as handles up = ap ascend (sym (map_twice (λ b. as_last b.value) (λ last. last.lterm.0) handles)) ∙ up
 
 -- and a place among the handles is one among the terminals
 pub place_as : (name : List ℕ) (handles : List (Box Kept Global)) (n : ℕ) → n ≤ length handles

@@ -14,13 +14,10 @@ use Rattle.std.proofs.lemmas.Nat.{from_be_bytes-to_be_bytes_8}
 use Rattle.fp_model.specs.declared.name.Name.{Name}
 use Rattle.fp_model.specs.Machine.{is_among, same_name}
 use Rattle.balancing.specs.Backlog.{AreSame, spelled, without}
+use Rattle.model_laws.proofs.Texts.{same_names}
 
 not_both : true ≡ false → ⊥
 not_both e = cc
-
--- names that are the same are equal, and the test doesn't look at their order
-pub same_names : (a b : Name) → same_name a b ≡ true → a ≡ b
-same_names a b same = ap (λ text. record { 0 = text }) ((bytes_decides a.0 b.0).0 same)
 
 own_name : (a b : Name) → a ≡ b → same_name a b ≡ true
 own_name a b e = (bytes_decides a.0 b.0).1 (ap (λ name. name.0) e)

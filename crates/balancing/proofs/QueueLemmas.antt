@@ -1,6 +1,5 @@
 -- One queue of several is changed, seen as a list of lists.
 use Rattle.std.proofs.Common.{refl, arith, ◌≡◌, ℕ, zero, suc, ◌<◌, List, [], ◌∷◌, ◌++◌, length, map, drop, Some, slice_get, slice_set, slice_index_or, unwrap_or, ap, sym, ◌∙◌}
-use Rattle.std.specs.Prelude.{Result, Ok, Err, OnErr}
 use Rattle.std.specs.Option.{option_map_or}
 use Rattle.std.proofs.lemmas.List.{map-set}
 use Rattle.fp_model.specs.declared.calls.Message.{Message}
@@ -40,8 +39,3 @@ module _ {Q : Type 0} (items : Q → List Message) where
       ∙ ap (slice_set (map items qs) i) more
       ∙ ap (λ found. option_map_or (λ messages. slice_set (map items qs) i (messages ++ message ∷ [])) found
       (map items qs)) (sym (shown_at items qs i q inside is))
-
--- what holds is so after any answer
-pub on_err : {T E P : Type 0} (answer : Result T E) → P → OnErr answer P
-on_err (Ok value) holds = tt
-on_err (Err fault) holds = holds

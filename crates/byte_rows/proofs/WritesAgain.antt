@@ -1,20 +1,22 @@
 -- A number that was read has a form in the same field: the bytes that were read, with the preferred sign.
-use Rattle.std.proofs.Common.{◌≡◌, ℕ, zero, suc, ◌+◌, ◌*◌, ◌^◌, ◌/◌, ◌%◌, ◌-◌, ◌<◌, ◌≤◌, Bool, true, false, List, [], ◌∷◌, ◌++◌, length, get_or, refl, sym, ap, subst, ◌∙◌, arith, Some, inl, inr}
+use Rattle.std.proofs.Common.{◌≡◌, ℕ, zero, suc, ◌+◌, ◌*◌, ◌^◌, ◌/◌, ◌%◌, ◌-◌, ◌<◌, ◌≤◌, true, List, [], ◌∷◌, ◌++◌, length, get_or, refl, sym, ap, subst, ◌∙◌, arith, Some, inl, inr}
 use Rattle.std.proofs.lemmas.Bool.{cases_lt, lt-ltb, le-ltb, ltb-true, eqb-true, leb-true, and_parts}
 use Rattle.std.proofs.lemmas.Int.{of_z-to_z}
 use Rattle.std.proofs.lemmas.List.Folds.{list_all-append}
 use Rattle.std.proofs.lemmas.Nat.{be_bytes_2, be_bytes_4}
 use Rattle.std.specs.Int.{cast_signed, cast_unsigned, w16, w32, to_be_bytes, from_be_bytes}
 use Rattle.std.specs.List.{list_all}
-use Rattle.std.specs.Prelude.{ℤ, pos, if◌then◌else◌, nat_le, ◌&&◌, ◌||◌, ◌==◌, neg_ℤ, unsigned_abs}
+use Rattle.std.specs.Prelude.{ℤ, pos, nat_le, ◌&&◌, ◌||◌, ◌==◌, unsigned_abs}
 use Rattle.fp_model.specs.Numbers.{is_digit, is_length_of, pairs, packed, packed_digits, packed_sign, packed_form, packed_of, sign_of, signed_by, big_endian, unsigned_of, fits_twos, number, bytes_of, form_of, number_of}
 use Rattle.fp_model.specs.Texts.{value}
 use Rattle.fp_model.specs.declared.definitions.FieldKind.{FieldKind}
 use Rattle.fp_model.specs.declared.definitions.FieldKind.TheVariants.{C, X, H, F, P}
 use Rattle.byte_rows.specs.Preferred.{signed_as, preferred}
 use Rattle.packed_dec.specs.inside.Halves.{halves}
-use Rattle.packed_dec.proofs.Digits.{length_snoc, value_snoc, value_below, halves_snoc, pair_snoc, digits_at, packed_digits_snoc, length-packed_digits}
-use Rattle.packed_dec.proofs.ReadsBack.{under_test}
+use Rattle.packed_dec.proofs.Digits.{value_snoc, value_below, halves_snoc, pair_snoc, digits_at, packed_digits_snoc, length-packed_digits}
+use Rattle.plain_laws.proofs.Numbers.{abs_signed as abs_either}
+use Rattle.plain_laws.proofs.Lists.{length_snoc}
+use Rattle.plain_laws.proofs.Options.{under_test}
 
 -- the last of a list, and those in front of it
 record Ending (xs : List ℕ) : Type 0 where
@@ -90,12 +92,6 @@ bytes_back (suc k) (b ∷ bs) size small =
     let Back : List ℕ → Type 0 = λ t. ((i : ℕ) → get_or t i 0 < 256) → big_endian (suc k) (value 256 t) ≡ t in
     subst Back (sym e.is) (λ each. byte_back k e.front e.last
     (bytes_back k e.front short (small_front e.front e.last each)) (small_last e.front e.last each)) small
-
--- the sign takes nothing from the magnitude
-abs_either : (b : Bool) (n : ℕ) → unsigned_abs (if b then neg_ℤ (pos n) else pos n) ≡ n
-abs_either true zero = refl
-abs_either true (suc n) = refl
-abs_either false n = refl
 
 abs_signed : (sign n : ℕ) → unsigned_abs (signed_by sign n) ≡ n
 abs_signed sign n = abs_either (sign == 11 || sign == 13) n

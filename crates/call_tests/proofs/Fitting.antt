@@ -1,5 +1,5 @@
 -- Customers that fit an anchor, and dependents that fit.
-use Rattle.std.proofs.Common.{◌≡◌, ℕ, List, [], ◌∷◌, ◌++◌, map, Some, None, refl, sym, subst, true, slice_get, inl}
+use Rattle.std.proofs.Common.{◌≡◌, ℕ, List, [], ◌∷◌, map, Some, None, refl, sym, subst, true, slice_get, inl}
 use Rattle.std.specs.List.{AllByRecursion}
 use Rattle.fp_model.specs.Exits.{anchor_of}
 use Rattle.fp_model.specs.Order.{Inserts, Step, direct, edited, key_in, new_root, root_key}
@@ -42,8 +42,3 @@ module _ (def : DedbDef) (anchor : ℕ) (bytes : List ℕ) (long : has_length de
               (inl refl, tt);
         };
       }
-
-pub all_push : {X : Type 0} (P : X → Type 0) (xs : List X) (x : X) → AllByRecursion P xs → P x
-    → AllByRecursion P (xs ++ x ∷ [])
-all_push P [] x all p = (p, tt)
-all_push P (y ∷ ys) x all p = (all.0, all_push P ys x all.1 p)

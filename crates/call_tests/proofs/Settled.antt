@@ -1,5 +1,5 @@
 -- What ends by a place ends by each later one, also of all databases.
-use Rattle.std.proofs.Common.{ℕ, ◌+◌, ◌≤◌, List, [], ◌∷◌, arith}
+use Rattle.std.proofs.Common.{ℕ, ◌≤◌, List, [], ◌∷◌, arith}
 use Rattle.std.specs.List.{AllByRecursion}
 use Rattle.past_segments.specs.Times.{EndsBy, IsSettledBy, Past}
 use Rattle.past_segments.specs.declared.slot.Slot.{Slot}
@@ -17,9 +17,3 @@ slots_later p q (slot ∷ slots) le all =
 
 pub settled_later : (p q : ℕ) (past : Past) → p ≤ q → IsSettledBy p past → IsSettledBy q past
 settled_later p q past le all = slots_later p q past.slots le all
-
-pub all_later : (place : ℕ) (pasts : List Past) → AllByRecursion (IsSettledBy place) pasts
-    → AllByRecursion (IsSettledBy (place + 1)) pasts
-all_later place [] all = tt
-all_later place (past ∷ pasts) all =
-    (settled_later place (place + 1) past (omega arith) all.0, all_later place pasts all.1)

@@ -29,10 +29,6 @@ last_behind last lasts more up = put_behind (λ l. l.lterm.0) last lasts more up
 pub regrouped : {X : Type 0} (xs : List X) (x : X) (more : List X) → (xs ++ x ∷ []) ++ more ≡ xs ++ x ∷ more
 regrouped xs x more = append_assoc xs (x ∷ []) more
 
-pub map_both : {X Y Z : Type 0} (f : X → Y) (g : Y → Z) (xs : List X) → map g (map f xs) ≡ map (λ x. g (f x)) xs
-map_both f g [] = refl
-map_both f g (x ∷ xs) = ap (λ ys. g (f x) ∷ ys) (map_both f g xs)
-
 -- what reading the terminals comes to where names don't ascend
 pub none_numbered : (bytes : List ℕ) (count : ℕ) (after : List ℕ) (lasts : List Last) (rest : List ℕ)
     → number_at w64 bytes ≡ Some (count, after) → many_at last_at count after ≡ Some (lasts, rest)

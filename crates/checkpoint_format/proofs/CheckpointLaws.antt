@@ -1,6 +1,6 @@
 -- A checkpoint's bytes behind its gate: the spelling and the reader undo each other.
-use Rattle.std.proofs.Common.{◌≡◌, ◌⊎◌, inl, inr, ℕ, zero, suc, ◌^◌, ◌<◌, Bool, true, false, List, [], ◌∷◌, ◌++◌, length, Option, Some, None, refl, sym, ap, subst, ◌∙◌, append_assoc, arith}
-use Rattle.std.specs.Prelude.{if◌then◌else◌, ◌==◌}
+use Rattle.std.proofs.Common.{◌≡◌, ◌⊎◌, inl, inr, ℕ, ◌^◌, ◌<◌, true, List, [], ◌∷◌, ◌++◌, length, Some, refl, sym, ap, subst, ◌∙◌, append_assoc, arith}
+use Rattle.std.specs.Prelude.{◌==◌}
 use Rattle.std.specs.List.{AllByRecursion, AllZip}
 use Rattle.std.proofs.lemmas.Bool.{eqb-true, eq-eqb}
 use Rattle.std.proofs.lemmas.Slice.Zip.{AllZip-long}
@@ -11,28 +11,23 @@ use Rattle.fp_model.specs.Spellings.{be64}
 use Rattle.fp_model.specs.declared.database.Msdb.{Msdb}
 use Rattle.fp_model.specs.declared.definitions.MsdbDef.{MsdbDef}
 use Rattle.log_format.specs.Laws.{Takes}
-use Rattle.log_format.proofs.Fields.{bound, law8, next, some_is, then as joins}
+use Rattle.log_format.proofs.Fields.{law8, next, then as joins}
 use Rattle.checkpoint_format.specs.Reading.{all_msdbs_at, head_at, lasts_at, msdbs_at, place_at, rest_at}
 use Rattle.checkpoint_format.proofs.DatabaseLaws.{AreShort, FitsMsdb, msdbs_again, msdbs_takes, msdbs_text}
 use Rattle.checkpoint_format.proofs.HeadLaws.{head_again, head_takes, letters, place_again, place_takes}
 use Rattle.checkpoint_format.proofs.LastLaws.{numbered_again, numbered_takes}
+use Rattle.model_laws.proofs.Texts.{some_step}
+use Rattle.model_laws.proofs.Entries.{format_is}
+use Rattle.plain_laws.proofs.Options.{under_test}
+use Rattle.std.proofs.lemmas.Option.{same_Some}
 
 -- ---- formats
-
-format_is : (format : ℕ) → IsFormat format → (format ≡ 1) ⊎ (format ≡ 2)
-format_is format (zero, within, is) = inl (sym is)
-format_is format (suc zero, within, is) = inr (sym is)
-format_is format (suc (suc k), within, is) = absurd (omega (arith, within))
 
 is_format : (format : ℕ) → (format ≡ 1) ⊎ (format ≡ 2) → IsFormat format
 is_format format (inl one) = (0, omega arith, sym one)
 is_format format (inr two) = (1, omega arith, sym two)
 
 -- ---- databases behind their number
-
-one_way : {A : Type 0} (b : Bool) (r : Option A) (y : A) → (if b then r else None) ≡ Some y → (b ≡ true) × (r ≡ Some y)
-one_way true r y e = (refl, e)
-one_way false r y e = absurd cc
 
 split : (defs : List MsdbDef) (msdbs : List Msdb) → AllZip FitsMsdb defs msdbs
     → AllZip IsMsdbOf defs msdbs × AllByRecursion (λ (m : Msdb). length m.segments < 2 ^ 32) msdbs
@@ -54,7 +49,7 @@ all_takes : (defs : List MsdbDef) (bytes : List ℕ) (x : List Msdb × List ℕ)
 unfolding all_msdbs_at
 all_takes defs bytes x short fits e =
     let a = next law8 bytes _ x fits e in
-    let b = one_way (a.0.0 == length defs) (msdbs_at defs a.0.1) x a.3 in
+    let b = under_test (a.0.0 == length defs) (msdbs_at defs a.0.1) x a.3 in
     let m = msdbs_takes defs a.0.1 x short a.1.rest_fits b.1 in
     let t = joins bytes (a.0.0 ∷ []) a.0.1 (msdbs_text defs x.0) x.1 a.1 m.0 in
     let count : a.0.0 ≡ length x.0 = eqb-true _ _ b.0 ∙ sym (AllZip-long FitsMsdb defs x.0 m.1) in (
@@ -78,7 +73,7 @@ lasts_takes : (format : ℕ) (bytes : List ℕ) (x : List Last × List ℕ) → 
     → lasts_at format bytes ≡ Some x
     → Takes bytes (lasts_text format x.0) x.1 × AreLasts x.0 × (format ≡ 1 → x.0 ≡ [])
 lasts_takes format bytes x (inl one) fits e =
-    let none : ([], bytes) ≡ x = some_is ([], bytes) x (sym (ap (λ f. lasts_at f bytes) one) ∙ e) in
+    let none : ([], bytes) ≡ x = same_Some ([], bytes) x (sym (ap (λ f. lasts_at f bytes) one) ∙ e) in
     subst (λ (y : List Last × List ℕ). Takes bytes (lasts_text format y.0) y.1 × AreLasts y.0 × (format ≡ 1 → y.0 ≡ []))
     none (
       record { parts = ap (λ f. lasts_text f [] ++ bytes) (sym one); rest_fits = fits },
@@ -115,13 +110,13 @@ pub rest_takes : (defs : List MsdbDef) (bytes : List ℕ) (x : (ℕ × Checkpoin
     → (bytes ≡ checkpoint_rest x.0.0 defs x.0.1 ++ x.1) × IsCheckpoint x.0.0 defs x.0.1
 unfolding rest_at
 rest_takes defs bytes x short fits e =
-    let a = bound (head_at bytes) _ x e in
+    let a = some_step (head_at bytes) _ x e in
     let h = head_takes bytes a.0 fits a.1 in
-    let b = bound (place_at a.0.1) _ x a.2 in
+    let b = some_step (place_at a.0.1) _ x a.2 in
     let p = place_takes a.0.1 b.0 h.0.rest_fits b.1 in
-    let c = bound (all_msdbs_at defs b.0.1) _ x b.2 in
+    let c = some_step (all_msdbs_at defs b.0.1) _ x b.2 in
     let m = all_takes defs b.0.1 c.0 short p.0.rest_fits c.1 in
-    let d = bound (lasts_at a.0.0.0 c.0.1) _ x c.2 in
+    let d = some_step (lasts_at a.0.0.0 c.0.1) _ x c.2 in
     let l = lasts_takes a.0.0.0 c.0.1 d.0 h.1 m.0.rest_fits d.1 in
     let t = joins bytes _ c.0.1 _ d.0.1 (joins bytes _ b.0.1 _ c.0.1 (joins bytes _ a.0.1 _ b.0.1 h.0 p.0) m.0) l.0 in
     let k : Checkpoint = record {
@@ -136,7 +131,7 @@ rest_takes defs bytes x short fits e =
     (msdbs_text defs c.0.0) (lasts_text a.0.0.0 d.0.0) in
     let databases = split defs c.0.0 m.1 in
     subst (λ (y : (ℕ × Checkpoint) × List ℕ). (bytes ≡ checkpoint_rest y.0.0 defs y.0.1 ++ y.1)
-    × IsCheckpoint y.0.0 defs y.0.1) (some_is made x d.2) (
+    × IsCheckpoint y.0.0 defs y.0.1) (same_Some made x d.2) (
       t.parts ∙ ap (λ s. s ++ d.0.1) text,
       record {
         is_format = is_format a.0.0.0 h.1;

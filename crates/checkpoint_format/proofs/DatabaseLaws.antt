@@ -2,7 +2,7 @@
 use Rattle.std.proofs.Common.{◌≡◌, ℕ, ◌^◌, ◌<◌, Bool, true, false, ◌&&◌, List, [], ◌∷◌, ◌++◌, length, map, Some, None, refl, sym, ap, subst, ◌∙◌, append_assoc, arith}
 use Rattle.std.specs.Prelude.{if◌then◌else◌, ◌==◌}
 use Rattle.std.specs.List.{AllByRecursion, AllZip, flat_map, zip}
-use Rattle.std.proofs.lemmas.Bool.{eqb-true, eq-eqb}
+use Rattle.std.proofs.lemmas.Bool.{eqb-true, eq-eqb, and_from, and_parts}
 use Rattle.std.proofs.lemmas.List.Concat.{flat_map-cons}
 use Rattle.fp_model.specs.CheckpointText.{IsMsdbOf, msdb_text}
 use Rattle.fp_model.specs.LogText.{IsBytes}
@@ -12,20 +12,16 @@ use Rattle.fp_model.specs.declared.database.Msdb.{Msdb}
 use Rattle.fp_model.specs.declared.definitions.MsdbDef.{MsdbDef}
 use Rattle.log_format.specs.Laws.{Lawful, Takes}
 use Rattle.log_format.specs.Reading.{many_at, part_at}
-use Rattle.log_format.proofs.Fields.{bound, law16, law32, next, part_again, part_takes, some_is, then as joins}
+use Rattle.log_format.proofs.Fields.{law16, law32, next, part_again, part_takes, then as joins}
 use Rattle.log_format.proofs.Lists.{many_again, many_takes}
-use Rattle.log_format.proofs.Rules.{both_true}
 use Rattle.checkpoint_format.specs.Reading.{msdb_at, msdbs_at}
+use Rattle.model_laws.proofs.Texts.{some_step}
+use Rattle.std.proofs.lemmas.Option.{same_Some}
 
 -- a test that passed
 pub passed : {A : Type 0} (b : Bool) (x y : A) → (if b then Some x else None) ≡ Some y → (b ≡ true) × (x ≡ y)
 passed true x y e = (refl, cc)
 passed false x y e = absurd cc
-
-pub both : (a b : Bool) → a ≡ true → b ≡ true → (a && b) ≡ true
-both true true x y = refl
-both true false x y = y
-both false b x y = x
 
 -- a segment of a length
 pub segment_law : (n : ℕ) → Lawful (List ℕ) (λ s. s) (part_at n) (λ s. length s ≡ n)
@@ -45,12 +41,12 @@ module _ (def : MsdbDef) (short : def.length < 2 ^ 16) where
   msdb_takes bytes x fits e =
       let a = next law16 bytes _ x fits e in
       let b = next law32 a.0.1 _ x a.1.rest_fits a.3 in
-      let c = bound (many_at (part_at def.length) b.0.0 b.0.1) _ x b.3 in
+      let c = some_step (many_at (part_at def.length) b.0.0 b.0.1) _ x b.3 in
       let m = many_takes (List ℕ) (λ s. s) (part_at def.length) (λ s. length s ≡ def.length) (segment_law def.length)
       b.0.0 b.0.1 c.0 b.1.rest_fits c.1 in
       let made : Msdb × List ℕ = (record { segments = c.0.0 }, c.0.1) in
       let p = passed ((a.0.0 == def.length) && ascend (map (key_of def.fields) c.0.0)) made x c.2 in
-      let q = both_true (a.0.0 == def.length) (ascend (map (key_of def.fields) c.0.0)) p.0 in
+      let q = and_parts (a.0.0 == def.length) (ascend (map (key_of def.fields) c.0.0)) p.0 in
       let size : a.0.0 ≡ def.length = eqb-true _ _ q.0 in
       let t = joins bytes _ b.0.1 _ c.0.1 (joins bytes _ a.0.1 _ b.0.1 a.1 b.1) m.0 in
       let text : be16 a.0.0 ++ be32 b.0.0 ++ flat_map (λ s. s) c.0.0 ≡ msdb_text def (record { segments = c.0.0 }) =
@@ -69,7 +65,7 @@ module _ (def : MsdbDef) (short : def.length < 2 ^ 16) where
       let regrouped : msdb_text def msdb ++ rest ≡ be16 def.length
       ++ (be32 (length segs) ++ (flat_map (λ s. s) segs ++ rest)) = simp append_assoc in
       let ok : ((def.length == def.length) && ascend (map (key_of def.fields) segs)) ≡ true =
-      both (def.length == def.length) (ascend (map (key_of def.fields) segs)) (eq-eqb def.length def.length refl)
+      and_from (def.length == def.length) (ascend (map (key_of def.fields) segs)) (eq-eqb def.length def.length refl)
       fits.0.in_order in
       ap (msdb_at def) regrouped ∙ rw (
         law16.again def.length (be32 (length segs) ++ (flat_map (λ s. s) segs ++ rest)) short,
@@ -95,15 +91,15 @@ pub msdbs_takes : (defs : List MsdbDef) (bytes : List ℕ) (x : List Msdb × Lis
 unfolding msdbs_at
 msdbs_takes [] bytes x short fits e =
     subst (λ (y : List Msdb × List ℕ). Takes bytes (msdbs_text [] y.0) y.1 × AllZip FitsMsdb [] y.0)
-    (some_is ([], bytes) x e) (record { parts = refl; rest_fits = fits }, tt)
+    (same_Some ([], bytes) x e) (record { parts = refl; rest_fits = fits }, tt)
 msdbs_takes (def ∷ defs) bytes x short fits e =
     let a = next (msdb_law def short.0) bytes _ x fits e in
-    let b = bound (msdbs_at defs a.0.1) _ x a.3 in
+    let b = some_step (msdbs_at defs a.0.1) _ x a.3 in
     let m = msdbs_takes defs a.0.1 b.0 short.1 a.1.rest_fits b.1 in
     let t = joins bytes (msdb_text def a.0.0) a.0.1 (msdbs_text defs b.0.0) b.0.1 a.1 m.0 in
     let made : List Msdb × List ℕ = (a.0.0 ∷ b.0.0, b.0.1) in
     subst (λ (y : List Msdb × List ℕ). Takes bytes (msdbs_text (def ∷ defs) y.0) y.1 × AllZip FitsMsdb (def ∷ defs) y.0)
-    (some_is made x b.2) (rw flat_map-cons t, (a.2, m.1))
+    (same_Some made x b.2) (rw flat_map-cons t, (a.2, m.1))
 
 pub msdbs_again : (defs : List MsdbDef) (msdbs : List Msdb) (rest : List ℕ) → AreShort defs
     → AllZip FitsMsdb defs msdbs → msdbs_at defs (msdbs_text defs msdbs ++ rest) ≡ Some (msdbs, rest)

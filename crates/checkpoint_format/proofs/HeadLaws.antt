@@ -1,7 +1,7 @@
 -- The letters and numbers at the head of a checkpoint, both ways.
 use Rattle.std.proofs.Common.{◌≡◌, ◌⊎◌, inl, inr, ℕ, ◌+◌, ◌-◌, ◌^◌, ◌<◌, ◌≤◌, Bool, true, false, ◌&&◌, ◌||◌, List, [], ◌∷◌, ◌++◌, Some, refl, sym, ap, subst, ◌∙◌, append_assoc, arith}
 use Rattle.std.specs.Prelude.{◌==◌, codes, nat_le}
-use Rattle.std.proofs.lemmas.Bool.{eqb-true}
+use Rattle.std.proofs.lemmas.Bool.{eqb-true, and_from, and_parts}
 use Rattle.std.proofs.lemmas.Bool.Decides.{nat_tests}
 use Rattle.std.proofs.lemmas.Slice.Eq.{bytes_eq-Decides}
 use Rattle.fp_model.specs.LogText.{IsBytes, of_format}
@@ -9,10 +9,11 @@ use Rattle.fp_model.specs.Spellings.{be64}
 use Rattle.fp_model.specs.Texts.{same_text}
 use Rattle.log_format.specs.Laws.{Takes}
 use Rattle.log_format.specs.Reading.{part_at}
-use Rattle.log_format.proofs.Fields.{bound, law8, law64, next, part_again, part_takes, some_is, then as joins}
-use Rattle.log_format.proofs.Rules.{both_true}
+use Rattle.log_format.proofs.Fields.{law8, law64, next, part_again, part_takes, then as joins}
 use Rattle.checkpoint_format.specs.Reading.{head_at, letters_at, place_at, placed}
-use Rattle.checkpoint_format.proofs.DatabaseLaws.{both, passed}
+use Rattle.checkpoint_format.proofs.DatabaseLaws.{passed}
+use Rattle.model_laws.proofs.Texts.{some_step}
+use Rattle.std.proofs.lemmas.Option.{same_Some}
 
 abbrev pub letters : List ℕ
 letters = codes "IMSFPCK"
@@ -45,7 +46,7 @@ head_again format number rest is fits = rw (
 ) refl
 
 pub placed_is : (at count : ℕ) → at ≤ 2 ^ 62 → count ≤ at → placed at count ≡ true
-placed_is at count low fewer = both (nat_le at (2 ^ 62)) (nat_le count at) (grind (arith, nat_tests)) (grind (
+placed_is at count low fewer = and_from (nat_le at (2 ^ 62)) (nat_le count at) (grind (arith, nat_tests)) (grind (
   arith,
   nat_tests,
 ))
@@ -72,12 +73,12 @@ pub letters_takes : (bytes : List ℕ) (x : ℕ × List ℕ) → IsBytes bytes �
     → Takes bytes (of_format letters x.0) x.1 × ((x.0 ≡ 1) ⊎ (x.0 ≡ 2))
 unfolding letters_at
 letters_takes bytes x fits e =
-    let a = bound (part_at 7 bytes) _ x e in
+    let a = some_step (part_at 7 bytes) _ x e in
     let p = part_takes 7 bytes a.0 fits a.1 in
     let b = next law8 a.0.1 _ x p.0.rest_fits a.2 in
     let made : ℕ × List ℕ = (b.0.0 - 48, b.0.1) in
     let c = passed (same_text a.0.0 letters && (b.0.0 == 49 || b.0.0 == 50)) made x b.3 in
-    let q = both_true (same_text a.0.0 letters) (b.0.0 == 49 || b.0.0 == 50) c.0 in
+    let q = and_parts (same_text a.0.0 letters) (b.0.0 == 49 || b.0.0 == 50) c.0 in
     let same : a.0.0 ≡ letters = (bytes_eq-Decides a.0.0 letters).0 q.0 in
     let t = joins bytes a.0.0 a.0.1 (b.0.0 ∷ []) b.0.1 p.0 b.1 in
     let digit = is_digit b.0.0 q.1 in
@@ -102,12 +103,12 @@ pub head_takes : (bytes : List ℕ) (x : (ℕ × ℕ) × List ℕ) → IsBytes b
     → Takes bytes (of_format letters x.0.0 ++ be64 x.0.1) x.1 × ((x.0.0 ≡ 1) ⊎ (x.0.0 ≡ 2)) × (x.0.1 < 2 ^ 64)
 unfolding head_at
 head_takes bytes x fits e =
-    let a = bound (letters_at bytes) _ x e in
+    let a = some_step (letters_at bytes) _ x e in
     let p = letters_takes bytes a.0 fits a.1 in
     let b = next law64 a.0.1 _ x p.0.rest_fits a.2 in
     let made : (ℕ × ℕ) × List ℕ = ((a.0.0, b.0.0), b.0.1) in
     subst (λ (y : (ℕ × ℕ) × List ℕ). Takes bytes (of_format letters y.0.0 ++ be64 y.0.1) y.1
-    × ((y.0.0 ≡ 1) ⊎ (y.0.0 ≡ 2)) × (y.0.1 < 2 ^ 64)) (some_is made x b.3)
+    × ((y.0.0 ≡ 1) ⊎ (y.0.0 ≡ 2)) × (y.0.1 < 2 ^ 64)) (same_Some made x b.3)
     (joins bytes (of_format letters a.0.0) a.0.1 (be64 b.0.0) b.0.1 p.0 b.1, p.1, b.2)
 
 pub place_takes : (bytes : List ℕ) (x : (ℕ × ℕ) × List ℕ) → IsBytes bytes → place_at bytes ≡ Some x
@@ -118,7 +119,7 @@ place_takes bytes x fits e =
     let b = next law64 a.0.1 _ x a.1.rest_fits a.3 in
     let made : (ℕ × ℕ) × List ℕ = ((a.0.0, b.0.0), b.0.1) in
     let c = passed (placed a.0.0 b.0.0) made x b.3 in
-    let q = both_true (nat_le a.0.0 (2 ^ 62)) (nat_le b.0.0 a.0.0) c.0 in
+    let q = and_parts (nat_le a.0.0 (2 ^ 62)) (nat_le b.0.0 a.0.0) c.0 in
     subst (λ (y : (ℕ × ℕ) × List ℕ). Takes bytes (be64 y.0.0 ++ be64 y.0.1) y.1 × (y.0.0 ≤ 2 ^ 62) × (y.0.1 ≤ y.0.0))
     c.1 (
       joins bytes (be64 a.0.0) a.0.1 (be64 b.0.0) b.0.1 a.1 b.1,

@@ -16,12 +16,13 @@ use Rattle.fp_model.specs.Texts.{padded, same_text}
 use Rattle.fp_model.specs.declared.name.Name.{Name}
 use Rattle.log_format.specs.Laws.{Lawful, Takes}
 use Rattle.log_format.specs.Reading.{long_at, many_at, part_at}
-use Rattle.log_format.proofs.Fields.{bound, law16, law64, long_law, next, part_again, part_takes, then as joins}
+use Rattle.log_format.proofs.Fields.{law16, law64, long_law, next, part_again, part_takes, then as joins}
 use Rattle.log_format.proofs.Lists.{many_again, many_takes}
-use Rattle.log_format.proofs.Rules.{both_true}
 use Rattle.checkpoint_format.specs.Reading.{is_name_of, is_stored_name, last_at, numbered_at}
-use Rattle.checkpoint_format.proofs.DatabaseLaws.{both, passed}
+use Rattle.checkpoint_format.proofs.DatabaseLaws.{passed}
 use Rattle.checkpoint_format.proofs.Numbers.{last_is}
+use Rattle.std.proofs.lemmas.Bool.{and_from, and_parts}
+use Rattle.model_laws.proofs.Texts.{some_step}
 
 -- ---- names
 
@@ -37,7 +38,7 @@ found p (x ∷ xs) e = by (p x) refl (found p xs)
 pub stored_is : (bytes : List ℕ) → is_stored_name bytes ≡ true → IsName (record { 0 = bytes })
 stored_is bytes e =
     let f = found (is_name_of bytes) (1 ∷ 2 ∷ 3 ∷ 4 ∷ 5 ∷ 6 ∷ 7 ∷ 8 ∷ []) e in
-    let q = both_true (is_name (take f.0 bytes)) (same_text (padded 8 (take f.0 bytes)) bytes) f.1 in
+    let q = and_parts (is_name (take f.0 bytes)) (same_text (padded 8 (take f.0 bytes)) bytes) f.1 in
     (take f.0 bytes, q.0, sym ((bytes_eq-Decides (padded 8 (take f.0 bytes)) bytes).0 q.1))
 
 at_place : (n : ℕ) → 1 ≤ n → n ≤ 8 → get_or (1 ∷ 2 ∷ 3 ∷ 4 ∷ 5 ∷ 6 ∷ 7 ∷ 8 ∷ []) (n - 1) 0 ≡ n
@@ -55,10 +56,10 @@ at_place (suc (suc (suc (suc (suc (suc (suc (suc (suc n))))))))) some few = absu
 -- how long the text of a name is
 text_length : (text : List ℕ) → is_name text ≡ true → (1 ≤ length text) × (length text ≤ 8)
 text_length text e =
-    let a = both_true (nat_le 1 (length text) && nat_le (length text) 8 && is_letter (slice_index text 0))
+    let a = and_parts (nat_le 1 (length text) && nat_le (length text) 8 && is_letter (slice_index text 0))
     (list_all is_letter_or_digit text) e in
-    let b = both_true (nat_le 1 (length text) && nat_le (length text) 8) (is_letter (slice_index text 0)) a.0 in
-    let c = both_true (nat_le 1 (length text)) (nat_le (length text) 8) b.0 in
+    let b = and_parts (nat_le 1 (length text) && nat_le (length text) 8) (is_letter (slice_index text 0)) a.0 in
+    let c = and_parts (nat_le 1 (length text)) (nat_le (length text) 8) b.0 in
     (grind (arith, nat_tests), grind (arith, nat_tests))
 
 pub name_length : (name : Name) → IsName name → length name.0 ≡ 8
@@ -85,7 +86,7 @@ name_stored name is =
     list_any_at (is_name_of name.0) (1 ∷ 2 ∷ 3 ∷ 4 ∷ 5 ∷ 6 ∷ 7 ∷ 8 ∷ []) (length text - 1) 0
     (omega (arith, few.0, few.1))
     (ap (is_name_of name.0) (at_place (length text) few.0 few.1)
-    ∙ both (is_name (take (length text) name.0)) (same_text (padded 8 (take (length text) name.0)) name.0) first second)
+    ∙ and_from (is_name (take (length text) name.0)) (same_text (padded 8 (take (length text) name.0)) name.0) first second)
 
 -- ---- one terminal
 
@@ -104,7 +105,7 @@ last_takes : (bytes : List ℕ) (x : Last × List ℕ) → IsBytes bytes → las
     → Takes bytes (last_text x.0) x.1 × FitsLast x.0
 unfolding last_at
 last_takes bytes x fits e =
-    let a = bound (part_at 8 bytes) _ x e in
+    let a = some_step (part_at 8 bytes) _ x e in
     let p = part_takes 8 bytes a.0 fits a.1 in
     let b = next law64 a.0.1 _ x p.0.rest_fits a.2 in
     let c = next long_law b.0.1 _ x b.1.rest_fits b.3 in
@@ -156,7 +157,7 @@ pub numbered_takes : (bytes : List ℕ) (x : List Last × List ℕ) → IsBytes 
 unfolding numbered_at
 numbered_takes bytes x fits e =
     let a = next law64 bytes _ x fits e in
-    let b = bound (many_at last_at a.0.0 a.0.1) _ x a.3 in
+    let b = some_step (many_at last_at a.0.0 a.0.1) _ x a.3 in
     let m = many_takes Last last_text last_at FitsLast last_law a.0.0 a.0.1 b.0 a.1.rest_fits b.1 in
     let c = passed (ascend (map (λ (l : Last). l.lterm.0) b.0.0)) b.0 x b.2 in
     let t = joins bytes (be64 a.0.0) a.0.1 (flat_map last_text b.0.0) b.0.1 a.1 m.0 in

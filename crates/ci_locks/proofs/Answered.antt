@@ -2,7 +2,7 @@
 use Rattle.std.proofs.Common.{refl, arith, ◌≡◌, ℕ, zero, suc, ◌+◌, ◌<◌, ◌≤◌, List, [], ◌∷◌, ◌++◌, map, filter, Bool, true, false, not, ◌&&◌, ◌==◌, Option, Some, None, inl, inr, ◌⊎◌, ⊎_elim, ap, sym, subst, ◌∙◌}
 use Rattle.std.specs.Prelude.{if◌then◌else◌, Contains, flat_map}
 use Rattle.std.specs.List.{IsDistinct}
-use Rattle.std.proofs.lemmas.Bool.{cases_eq}
+use Rattle.std.proofs.lemmas.Bool.{cases_eq, and_from, and_parts, not_from_false}
 use Rattle.std.proofs.lemmas.Bool.Decides.{nat_tests}
 use Rattle.fp_model.specs.declared.calls.Mode.{Mode}
 use Rattle.fp_model.specs.declared.calls.Mode.TheVariants.{Share, Exclusive}
@@ -14,7 +14,10 @@ use Rattle.ci_locks.specs.inside.Graph.{Along, next, next_of}
 use Rattle.ci_locks.specs.Standing.{Standing, Shows, IsGrant, gained, gained_over}
 use Rattle.ci_locks.specs.inside.Standing.{Gains, asking, blocking, in_way, raised}
 use Rattle.ci_locks.specs.declared.locks.Grant.TheVariants as grant
-use Rattle.ci_locks.proofs.Shown.{In, to_in, from_in, any_in, in_any, in_filter, filter_in, both, and_true, number_is, is_number, not_true, false_not, resource_is, is_resource, lock_counts, way_counts, blockers_are}
+use Rattle.ci_locks.proofs.Shown.{In, to_in, from_in, any_in, in_any, in_filter, filter_in, lock_counts, way_counts, blockers_are}
+use Rattle.plain_laws.proofs.Numbers.{is_number, number_is}
+use Rattle.model_laws.proofs.Resources.{resource_is_same, same_resources}
+use Rattle.plain_laws.proofs.Truths.{not_true}
 
 -- ---- numbers in lists
 
@@ -190,7 +193,7 @@ module _ (s : Standing) (locks requests : List Lock) (wanted : Lock) (sh : Shows
           (inl (let same : wanted ≡ request = cc in same))
       back request false is e = from_in (with_request wanted requests) request
           (inr (filter_in (λ l. not (l.region == wanted.region)) requests request
-          (to_in requests request ((sh.standing request).1 e)) (false_not (request.region == wanted.region) is)))
+          (to_in requests request ((sh.standing request).1 e)) (not_from_false (request.region == wanted.region) is)))
 
 -- what stands without a request of a region shows in the requests without it
 gone : (s : Standing) (locks requests : List Lock) (region : ℕ) → Shows s locks requests → (request : Lock)
@@ -211,7 +214,7 @@ gone s locks requests region sh request = (
     back true is e = absurd (cc)
     back false is e = from_in (without_region region requests) request
         (filter_in (λ l. not (l.region == region)) requests request (to_in requests request ((sh.standing request).1 e))
-        (false_not (request.region == region) is))
+        (not_from_false (request.region == region) is))
 
 pub unasked : (s : Standing) (locks requests : List Lock) (region : ℕ) → Shows s locks requests
     → Shows (asking s region None) locks (without_region region requests)
@@ -241,9 +244,9 @@ module _ (s : Standing) (locks requests : List Lock) (wanted : Lock) (sh : Shows
   same_holds : (region : ℕ) (resource : Resource) → here region resource ≡ true
       → s.holds wanted.region wanted.resource ≡ s.holds region resource
   same_holds region resource is =
-      let p = both (region == wanted.region) (same_resource wanted.resource resource) is in
+      let p = and_parts (region == wanted.region) (same_resource wanted.resource resource) is in
       ap (λ n. s.holds n wanted.resource) (sym (number_is region wanted.region p.0)) ∙ ap (s.holds region)
-      (resource_is wanted.resource resource p.1)
+      (same_resources wanted.resource resource p.1)
 
   held_gained : (region : ℕ) (resource : Resource) (o : Option Mode) → s.holds wanted.region wanted.resource ≡ o
       → held_as (gained_over o wanted locks) region resource ≡
@@ -277,8 +280,8 @@ module _ (s : Standing) (locks requests : List Lock) (wanted : Lock) (sh : Shows
       let mode : wanted.mode ≡ Exclusive = ap (λ (l : Lock). l.mode) same ∙ e in
       subst P same
       (ap (λ b. if b then Some (raised (s.holds wanted.region wanted.resource) wanted.mode) else s.holds wanted.region
-      wanted.resource) (and_true (wanted.region == wanted.region) (same_resource wanted.resource wanted.resource)
-      (is_number wanted.region) (is_resource wanted.resource))
+      wanted.resource) (and_from (wanted.region == wanted.region) (same_resource wanted.resource wanted.resource)
+      (is_number wanted.region) (resource_is_same wanted.resource))
       ∙ ap (λ m. Some (raised (s.holds wanted.region wanted.resource) m)) mode
       ∙ ap Some (raised_exclusive (s.holds wanted.region wanted.resource)))
   strong lock (inr i) e = by (here lock.region lock.resource) refl (sh.strongest lock (from_in locks lock i) e)

@@ -20,6 +20,7 @@ use Rattle.ci_locks.specs.Table.{Row, joined, key_mode, mode_of, request_of, row
 use Rattle.ci_locks.specs.declared.holding.Holdings.{Holdings}
 use Rattle.ci_locks.specs.declared.state.Region.{Region}
 use Rattle.ci_locks.specs.declared.state.State.{State}
+use Rattle.plain_laws.proofs.Options.{none_isnt_some, some_value}
 
 -- ---- one row
 
@@ -148,14 +149,6 @@ shows_rows s locks requests sound sh = let P : Standing → Type 0 = λ t. Shows
 
 -- ---- anchors of a range
 
-some_value : {X : Type 0} (o : Option X) → IsSome o → (x : X) × (o ≡ Some x)
-some_value None some = absurd (cc)
-some_value (Some x) some = (x, refl)
-
-not_some : {X : Type 0} (o : Option X) → o ≡ None → IsSome o → ⊥
-not_some {X = X} o e some = let P : Option X → Type 0 = IsSome in let wrong : false ≡ true = subst P e some in
-    absurd (cc)
-
 module _ (s : State) (rows : List Row) (sound : IsSound s) (e : rows_of s ≡ rows) (dedb first last : ℕ) where
   -- one that has an entry is held
   pub one_held : ((anchor : ℕ) × (first ≤ anchor) × (anchor ≤ last)
@@ -180,6 +173,6 @@ module _ (s : State) (rows : List Row) (sound : IsSound s) (e : rows_of s ≡ ro
       → ((region anchor : ℕ) × (first ≤ anchor) × (anchor ≤ last)
       × IsSome ((standing rows).holds region (Anchor dedb anchor))) → ⊥
   none_held none (region, anchor, from, to, some) =
-      not_some ((standing rows).holds region (Anchor dedb anchor))
+      none_isnt_some ((standing rows).holds region (Anchor dedb anchor))
       (sym (ap (λ (t : Standing). t.holds region (Anchor dedb anchor)) (stands s rows sound e)) ∙ ap
       (λ found. option_and_then (λ h. code.mode_of h region) found) (none anchor from to)) some

@@ -2,13 +2,15 @@
 use Rattle.std.proofs.Common.{refl, arith, ◌≡◌, ℕ, zero, suc, ◌+◌, ◌<◌, ◌≤◌, List, [], ◌∷◌, ◌++◌, length, Bool, true, false, not, ◌&&◌, ◌||◌, ◌==◌, Option, Some, None, inl, inr, ◌⊎◌, ⊎_elim, ap, sym, subst, ◌∙◌}
 use Rattle.std.specs.Prelude.{⊤, if◌then◌else◌, Contains, filter_map, map, filter, option_map, slice_get, unwrap_or}
 use Rattle.std.specs.List.{AllByRecursion, IsDistinct, cons_option}
-use Rattle.std.proofs.lemmas.Bool.{cases_eq}
+use Rattle.std.proofs.lemmas.Bool.{cases_eq, and_from, and_parts, or_from, or_parts}
 use Rattle.fp_model.specs.State.{numbers_up}
 use Rattle.fp_model.specs.Waiting.{Lock, IsCycle, WaitsAlong, conflicts, waits}
 use Rattle.ci_locks.specs.Cycles.{IsFirstCycle, IsNoLater, first_cycle, first_way, is_pair, way_by}
 use Rattle.ci_locks.specs.Graph.{is_in}
 use Rattle.ci_locks.proofs.Answered.{in_flat, in_map, pair}
-use Rattle.ci_locks.proofs.Shown.{In, to_in, from_in, any_in, in_any, in_filter, both, and_true, number_is, is_number}
+use Rattle.ci_locks.proofs.Shown.{In, to_in, from_in, any_in, in_any, in_filter}
+use Rattle.plain_laws.proofs.Numbers.{is_number, not_flipped, number_is}
+use Rattle.std.proofs.lemmas.Option.{none-some}
 
 -- ---- the order of words
 
@@ -41,18 +43,6 @@ no_later_next (p ∷ path) r x xs le = inr (refl, no_later_next path r x xs le)
 
 -- ---- numbers that differ
 
-same_or : (a b : Bool) → a ≡ false → b ≡ false → (a || b) ≡ false
-same_or true b e f = absurd (cc)
-same_or false b e f = f
-
-turned : (x y : ℕ) → (x == y) ≡ false → (y == x) ≡ false
-turned x y e = by (y == x) refl
-  where
-    by : (b : Bool) → (y == x) ≡ b → b ≡ false
-    by true is = let same : y ≡ x = number_is y x is in
-        absurd (let wrong : true ≡ false = sym (is_number x) ∙ ap (λ n. x == n) (sym same) ∙ e in cc)
-    by false is = refl
-
 -- a number that is in both parts
 all_has : (P : ℕ → Type 0) (xs : List ℕ) (y : ℕ) → AllByRecursion P xs → is_in xs y ≡ true → P y
 all_has P [] y all e = absurd (cc)
@@ -76,8 +66,8 @@ pub apart_of : (path rest : List ℕ) → IsDistinct ◌==◌ (path ++ rest) →
 unfolding IsDistinct
 apart_of [] rest apart y e = refl
 apart_of (p ∷ path) rest apart y e =
-    same_or (y == p) (is_in path y)
-    (turned p y (all_has (λ z. (p == z) ≡ false) (path ++ rest) y apart.0 (in_behind path rest y e)))
+    or_from (y == p) (is_in path y)
+    (not_flipped p y (all_has (λ z. (p == z) ≡ false) (path ++ rest) y apart.0 (in_behind path rest y e)))
     (apart_of path rest apart.1 y e)
 
 -- ---- ways through regions not passed
@@ -97,10 +87,6 @@ in_first x xs = ap (λ b. b || is_in xs x) (is_number x)
 in_later : (x : ℕ) (xs : List ℕ) (y : ℕ) → is_in xs y ≡ true → is_in (x ∷ xs) y ≡ true
 in_later x xs y e = in_behind (x ∷ []) xs y e
 
-not_or : (a b : Bool) → (a || b) ≡ false → (a ≡ false) × (b ≡ false)
-not_or true b e = absurd (cc)
-not_or false b e = (refl, e)
-
 -- each apart from those passed
 free_of : (passed xs : List ℕ) → ((y : ℕ) → is_in xs y ≡ true → is_in passed y ≡ false) → IsDistinct ◌==◌ xs
     → IsFree passed xs
@@ -109,7 +95,7 @@ free_of passed [] out apart = tt
 free_of passed (x ∷ xs) out apart = (
   out x (in_first x xs),
   free_of (x ∷ passed) xs
-      (λ y e. same_or (y == x) (is_in passed y) (turned x y (all_has (λ z. (x == z) ≡ false) xs y apart.0 e))
+      (λ y e. or_from (y == x) (is_in passed y) (not_flipped x y (all_has (λ z. (x == z) ≡ false) xs y apart.0 e))
       (out y (in_later x xs y e))) apart.1,
 )
 
@@ -120,7 +106,7 @@ is_out passed (x ∷ xs) free y e = by (y == x) refl e (is_out (x ∷ passed) xs
     by : (b : Bool) → (y == x) ≡ b → (b || is_in xs y) ≡ true → (is_in xs y ≡ true → is_in (x ∷ passed) y ≡ false)
         → is_in passed y ≡ false
     by true same e2 rest = ap (is_in passed) (number_is y x same) ∙ free.0
-    by false other e2 rest = (not_or (y == x) (is_in passed y) (rest e2)).1
+    by false other e2 rest = (or_parts (y == x) (is_in passed y) (rest e2)).1
 
 all_of : (P : ℕ → Type 0) (xs : List ℕ) → ((y : ℕ) → is_in xs y ≡ true → P y) → AllByRecursion P xs
 all_of P [] each = tt
@@ -131,7 +117,7 @@ unfolding IsDistinct
 is_apart passed [] free = tt
 is_apart passed (x ∷ xs) free = (
   all_of (λ z. (x == z) ≡ false) xs
-      (λ y e. turned y x (not_or (y == x) (is_in passed y) (is_out (x ∷ passed) xs free.1 y e)).0),
+      (λ y e. not_flipped y x (or_parts (y == x) (is_in passed y) (is_out (x ∷ passed) xs free.1 y e)).0),
   is_apart (x ∷ passed) xs free.1,
 )
 
@@ -144,18 +130,15 @@ apart_behind : (region : ℕ) (xs : List ℕ) → IsFree (region ∷ []) xs → 
 unfolding IsDistinct
 apart_behind region xs free = (
   all_of (λ z. (region == z) ≡ false) xs
-      (λ y e. turned y region (not_or (y == region) false (is_out (region ∷ []) xs free y e)).0),
+      (λ y e. not_flipped y region (or_parts (y == region) false (is_out (region ∷ []) xs free y e)).0),
   is_apart (region ∷ []) xs free,
 )
 
 -- ---- the first that is found
 
-none_some : {X : Type 0} (x : X) → None ≡ Some x → ⊥
-none_some x e = absurd (cc)
-
 found_by : (f : ℕ → Option (List ℕ)) (xs : List ℕ) (way : List ℕ) → slice_get (filter_map f xs) 0 ≡ Some way
     → (x : ℕ) × (f x ≡ Some way)
-found_by f [] way e = absurd (none_some way e)
+found_by f [] way e = absurd (none-some way e)
 found_by f (x ∷ xs) way e = by (f x) refl e (found_by f xs way)
   where
     by : (o : Option (List ℕ)) → f x ≡ o → slice_get (cons_option o (filter_map f xs)) 0 ≡ Some way
@@ -186,7 +169,7 @@ module _ (regions : ℕ) (leads : ℕ → ℕ → Bool) (goal : ℕ) where
       → ((rest : List ℕ) → o ≡ Some rest → IsFound (next ∷ passed) next rest)
       → leads region next ≡ true → is_in passed next ≡ false
       → option_map (λ (rest : List ℕ). next ∷ rest) o ≡ Some way → IsFound passed region way
-  on region next passed None way found leads_on out e = absurd (none_some way e)
+  on region next passed None way found leads_on out e = absurd (none-some way e)
   on region next passed (Some rest) way found leads_on out e =
       let same : next ∷ rest ≡ way = cc in
       let it = found rest refl in
@@ -206,14 +189,14 @@ module _ (regions : ℕ) (leads : ℕ → ℕ → Bool) (goal : ℕ) where
           → (if b then option_map (λ (rest : List ℕ). next ∷ rest) (from (next ∷ passed) next) else None) ≡ Some way
           → IsFound passed region way
       by true is e2 =
-          let parts = both (leads region next) (not (is_in passed next)) is in
+          let parts = and_parts (leads region next) (not (is_in passed next)) is in
           on region next passed (from (next ∷ passed) next) way (λ rest e3. found (next ∷ passed) next rest e3) parts.0
           (out (is_in passed next) parts.1) e2
-      by false is e2 = absurd (none_some way e2)
+      by false is e2 = absurd (none-some way e2)
 
   pub way_is : (steps : ℕ) (passed : List ℕ) (region : ℕ) (way : List ℕ)
       → first_way regions leads goal steps passed region ≡ Some way → IsFound passed region way
-  way_is zero passed region way e = absurd (none_some way e)
+  way_is zero passed region way e = absurd (none-some way e)
   way_is (suc steps) passed region way e =
       by (leads region goal) refl e (λ p r w f. way_is steps p r w f)
     where
@@ -272,7 +255,7 @@ module _ (regions : ℕ) (leads : ℕ → ℕ → Bool) (goal : ℕ) where
           → way_by leads (first_way regions leads goal steps) passed region x ≡ Some (x ∷ xs)
       here rest =
           ap (λ b. if b then option_map (λ (rest : List ℕ). x ∷ rest) (first_way regions leads goal steps (x ∷ passed)
-          x) else None) (and_true (leads region x) (not (is_in passed x)) leads_on.0 (ap not free.0))
+          x) else None) (and_from (leads region x) (not (is_in passed x)) leads_on.0 (ap not free.0))
           ∙ ap (λ o. option_map (λ (rest : List ℕ). x ∷ rest) o) rest
 
       -- no lesser region begins one
@@ -288,8 +271,8 @@ module _ (regions : ℕ) (leads : ℕ → ℕ → Bool) (goal : ℕ) where
           begins : (o : Option (List ℕ)) (b : Bool) (way : List ℕ)
               → (if b then option_map (λ (rest : List ℕ). y ∷ rest) o else None) ≡ Some way
               → (rest : List ℕ) × (way ≡ y ∷ rest)
-          begins o false way e = absurd (none_some way e)
-          begins None true way e = absurd (none_some way e)
+          begins o false way e = absurd (none-some way e)
+          begins None true way e = absurd (none-some way e)
           begins (Some rest) true way e = (rest, (let same : y ∷ rest ≡ way = cc in sym same))
 
           apart : (way : List ℕ) → way_by leads (first_way regions leads goal steps) passed region y ≡ Some way
@@ -309,12 +292,12 @@ module _ (regions : ℕ) (leads : ℕ → ℕ → Bool) (goal : ℕ) where
 pair_in : (pairs : List (ℕ × ℕ)) (a b : ℕ) → Contains pairs (a, b) → is_pair pairs a b ≡ true
 pair_in pairs a b c =
     any_in (λ (pair : ℕ × ℕ). pair.0 == a && pair.1 == b) pairs (a, b) (to_in pairs (a, b) c)
-    (and_true (a == a) (b == b) (is_number a) (is_number b))
+    (and_from (a == a) (b == b) (is_number a) (is_number b))
 
 in_pair : (pairs : List (ℕ × ℕ)) (a b : ℕ) → is_pair pairs a b ≡ true → Contains pairs (a, b)
 in_pair pairs a b e =
     let some = in_any (λ (pair : ℕ × ℕ). pair.0 == a && pair.1 == b) pairs e in
-    let parts = both (some.0.0 == a) (some.0.1 == b) some.2 in
+    let parts = and_parts (some.0.0 == a) (some.0.1 == b) some.2 in
     let P : ℕ × ℕ → Type 0 = λ p. In pairs p in
     from_in pairs (a, b)
     (subst P (ap (λ n. (n, some.0.1)) (number_is some.0.0 a parts.0) ∙ ap (λ n. (a, n)) (number_is some.0.1 b parts.1))

@@ -15,14 +15,8 @@ use Rattle.fp_model.specs.declared.calls.Resource.{Resource}
 use Rattle.fp_model.specs.declared.calls.Resource.TheVariants.{Segment, Anchor}
 use Rattle.fp_model.specs.Waiting.{same_resource}
 use Rattle.ci_locks.specs.Holdings.{anchor_cmp, at_key, key_holders, resource_holders}
-
-then_test : (o p : Ordering) → is_eq (ordering_then o p) ≡ (is_eq o && is_eq p)
-then_test Less p = refl
-then_test Equal p = refl
-then_test Greater p = refl
-
-number_test : (a b : ℕ) → is_eq (nat_cmp a b) ≡ (a == b)
-number_test a b = grind (arith, nat_tests)
+use Rattle.model_laws.proofs.Texts.{same_text_is, text-flipped, text_test}
+use Rattle.plain_laws.proofs.Orderings.{number_test, then_test}
 
 pub anchor_test : (d a e b : ℕ) → is_at (anchor_cmp (d, a)) (e, b) ≡ (d == e && a == b)
 anchor_test d a e b = then_test (nat_cmp d e) (nat_cmp a b) ∙ ap (λ t. t && is_eq (nat_cmp a b)) (number_test d e) ∙ ap
@@ -43,24 +37,8 @@ put_anchor bytes old new segments resource d a now is updates (Anchor e b) =
 
 -- ---- segments
 
-text_test : (a b : List ℕ) → is_eq (slice_cmp nat_cmp a b) ≡ same_text a b
-text_test a b = same_from_slice_cmp nat_cmp is_eq same_text refl (λ _ _. refl) (λ _ _. refl)
-    (λ x y xs ys o h. grind (arith, nat_tests)) a b _ refl
-
-same_is : (a b : List ℕ) → same_text a b ≡ true → a ≡ b
-same_is a b e = (bytes_decides a b).0 e
-
 is_same : (a b : List ℕ) → a ≡ b → same_text a b ≡ true
 is_same a b e = (bytes_decides a b).1 e
-
-flipped : (a b : List ℕ) → same_text a b ≡ same_text b a
-flipped a b = by (same_text a b) (same_text b a) (λ e. is_same b a (sym (same_is a b e)))
-    (λ e. is_same a b (sym (same_is b a e)))
-  where
-    by : (p q : Bool) → (p ≡ true → q ≡ true) → (q ≡ true → p ≡ true) → p ≡ q
-    by true q there back = sym (there refl)
-    by false true there back = back refl
-    by false false there back = refl
 
 -- a key that a text finds isn't found by another
 elsewhere : (key k spelled : List ℕ) → same_text key k ≡ false → is_eq (slice_cmp nat_cmp key spelled) ≡ true
@@ -69,8 +47,8 @@ elsewhere key k spelled apart here = by (is_eq (slice_cmp nat_cmp k spelled)) re
   where
     by : (b : Bool) → is_eq (slice_cmp nat_cmp k spelled) ≡ b → b ≡ false
     by true e =
-        let same : key ≡ k = same_is key spelled (sym (text_test key spelled) ∙ here) ∙ sym
-        (same_is k spelled (sym (text_test k spelled) ∙ e)) in
+        let same : key ≡ k = same_text_is key spelled (sym (text_test key spelled) ∙ here) ∙ sym
+        (same_text_is k spelled (sym (text_test k spelled) ∙ e)) in
         absurd (let yes : same_text key k ≡ true = is_same key k same in cc)
     by false e = refl
 
@@ -79,7 +57,7 @@ module _ {K V : Type 0} (bytes : K → List ℕ) where
       → lookup (λ v. is_eq (slice_cmp nat_cmp k (bytes v)))
       (insert_entry (λ a b. slice_cmp nat_cmp (bytes a) (bytes b)) es key mode)
       ≡ cond (same_text (bytes key) k) (Some mode) (lookup (λ v. is_eq (slice_cmp nat_cmp k (bytes v))) es)
-  lookup_put [] key mode k = ap (λ b. cond b (Some mode) None) (text_test k (bytes key) ∙ flipped k (bytes key))
+  lookup_put [] key mode k = ap (λ b. cond b (Some mode) None) (text_test k (bytes key) ∙ text-flipped k (bytes key))
   lookup_put (e ∷ es) key mode k = by (slice_cmp nat_cmp (bytes key) (bytes e.0)) refl (lookup_put es key mode k)
     where
       three : (t s : Bool) (a m r : Option V) → t ≡ s → cond t m r ≡ cond s m (cond t a r)
@@ -105,19 +83,19 @@ module _ {K V : Type 0} (bytes : K → List ℕ) where
           (lookup (λ v. is_eq (slice_cmp nat_cmp k (bytes v))) es))
       by Less is rest = ap (λ b. cond b (Some mode)
           (cond (is_eq (slice_cmp nat_cmp k (bytes e.0))) (Some e.1)
-          (lookup (λ v. is_eq (slice_cmp nat_cmp k (bytes v))) es))) (text_test k (bytes key) ∙ flipped k (bytes key))
+          (lookup (λ v. is_eq (slice_cmp nat_cmp k (bytes v))) es))) (text_test k (bytes key) ∙ text-flipped k (bytes key))
       by Equal is rest =
-          let same : bytes key ≡ bytes e.0 = same_is (bytes key) (bytes e.0)
+          let same : bytes key ≡ bytes e.0 = same_text_is (bytes key) (bytes e.0)
           (sym (text_test (bytes key) (bytes e.0)) ∙ ap is_eq is) in
           three (is_eq (slice_cmp nat_cmp k (bytes e.0))) (same_text (bytes key) k) (Some e.1) (Some mode)
           (lookup (λ v. is_eq (slice_cmp nat_cmp k (bytes v))) es)
-          (text_test k (bytes e.0) ∙ flipped k (bytes e.0) ∙ ap (λ t. same_text t k) (sym same))
+          (text_test k (bytes e.0) ∙ text-flipped k (bytes e.0) ∙ ap (λ t. same_text t k) (sym same))
       by Greater is rest =
           ap (cond (is_eq (slice_cmp nat_cmp k (bytes e.0))) (Some e.1)) rest
           ∙ swap (is_eq (slice_cmp nat_cmp k (bytes e.0))) (same_text (bytes key) k) (Some e.1) (Some mode)
           (lookup (λ v. is_eq (slice_cmp nat_cmp k (bytes v))) es)
-          (λ t s. let here : k ≡ bytes e.0 = same_is k (bytes e.0) (sym (text_test k (bytes e.0)) ∙ t) in
-          let there : bytes key ≡ k = same_is (bytes key) k s in
+          (λ t s. let here : k ≡ bytes e.0 = same_text_is k (bytes e.0) (sym (text_test k (bytes e.0)) ∙ t) in
+          let there : bytes key ≡ k = same_text_is (bytes key) k s in
           let yes : is_eq Greater ≡ true = ap is_eq (sym is) ∙ text_test (bytes key) (bytes e.0) ∙ is_same (bytes key)
           (bytes e.0) (there ∙ here) in
           let no : false ≡ true = yes in cc)
@@ -261,7 +239,7 @@ module _ {K V : Type 0} (bytes : K → List ℕ) where
   changed key old new now here others k = by (same_text key k) refl
     where
       by : (b : Bool) → same_text key k ≡ b → at_key bytes k new ≡ (if b then now else at_key bytes k old)
-      by true e = ap (λ t. at_key bytes t new) (sym (same_is key k e)) ∙ here
+      by true e = ap (λ t. at_key bytes t new) (sym (same_text_is key k e)) ∙ here
       by false e = others k e
 
   pub set_there : (key : List ℕ) (old new : BTreeMap K V) (value : V) → at_key bytes key new ≡ Some value

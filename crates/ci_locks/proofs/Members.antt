@@ -1,20 +1,12 @@
 -- The regions of a set as a list, and those that a region leads to.
-use Rattle.std.proofs.Common.{refl, arith, ◌≡◌, ℕ, zero, suc, ◌+◌, ◌<◌, ◌≤◌, List, [], ◌∷◌, ◌++◌, length, take, filter, Bool, true, false, cond, ◌||◌, ◌==◌, get_or, ap, sym, ◌∙◌}
+use Rattle.std.proofs.Common.{refl, arith, ◌≡◌, ℕ, zero, suc, ◌+◌, ◌<◌, ◌≤◌, List, [], ◌∷◌, ◌++◌, length, take, filter, Bool, true, false, cond, ◌||◌, ◌==◌, ap, sym, ◌∙◌}
 use Rattle.std.specs.Prelude.{slice_set}
 use Rattle.fp_model.specs.State.{numbers_up}
 use Rattle.ci_locks.specs.Graph.{is_in}
 use Rattle.ci_locks.specs.Sets.{has}
 use Rattle.ci_locks.specs.inside.Sets.{members}
-
-number_is : (a b : ℕ) → (a == b) ≡ true → a ≡ b
-number_is a b e = grind arith
-
-is_number : (a : ℕ) → (a == a) ≡ true
-is_number a = grind arith
-
-or_right : (a b : Bool) → b ≡ true → (a || b) ≡ true
-or_right true b e = refl
-or_right false b e = e
+use Rattle.plain_laws.proofs.Numbers.{is_number, number_is}
+use Rattle.std.proofs.lemmas.Bool.{or_right}
 
 -- ---- numbers that pass a test
 
@@ -68,14 +60,6 @@ pub is_member : (word b : ℕ) → 1 ≤ b → b ≤ 64 → has word b ≡ true 
 is_member word b some most is = kept (has word) (numbers_up 64 1) b (numbers_have 64 1 b some (omega (arith, most))) is
 
 -- ---- the way in its array
-
-pub take_last : (xs : List ℕ) (k : ℕ) → k < length xs → take (k + 1) xs ≡ take k xs ++ get_or xs k 0 ∷ []
-take_last xs k h = let e : k + 1 ≡ suc k = omega arith in ap (λ i. take i xs) e ∙ by xs k h
-  where
-    by : (xs : List ℕ) (k : ℕ) → k < length xs → take (suc k) xs ≡ take k xs ++ get_or xs k 0 ∷ []
-    by [] k h = absurd (omega (arith, h))
-    by (x ∷ xs) zero h = refl
-    by (x ∷ xs) (suc k) h = ap (λ l. x ∷ l) (by xs k (omega (arith, h)))
 
 pub take_put : (xs : List ℕ) (k x : ℕ) → k < length xs → take (k + 1) (slice_set xs k x) ≡ take k xs ++ x ∷ []
 take_put xs k x h = let e : k + 1 ≡ suc k = omega arith in ap (λ i. take i (slice_set xs k x)) e ∙ by xs k h

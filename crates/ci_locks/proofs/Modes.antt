@@ -1,5 +1,5 @@
 -- How regions hold a resource, behind a change of its holders.
-use Rattle.std.proofs.Common.{refl, ◌≡◌, ℕ, Bool, true, false, ◌&&◌, ◌==◌, Option, Some, None, ap, sym, ◌∙◌, subst}
+use Rattle.std.proofs.Common.{refl, ◌≡◌, ℕ, Bool, true, false, ◌&&◌, ◌==◌, Option, Some, None, ap, sym, ◌∙◌}
 use Rattle.std.specs.Prelude.{IsSome, if◌then◌else◌, option_and_then}
 use Rattle.fp_model.specs.declared.calls.Mode.{Mode}
 use Rattle.fp_model.specs.declared.calls.Resource.{Resource}
@@ -8,10 +8,9 @@ use Rattle.ci_locks.specs.Holdings.{AreHeld, held_by, holders_in, mode_of}
 use Rattle.ci_locks.specs.inside.Standing.{raised}
 use Rattle.ci_locks.specs.declared.holding.Holders.{Holders}
 use Rattle.ci_locks.specs.declared.holding.Holdings.{Holdings}
-use Rattle.ci_locks.proofs.Shown.{is_number, resource_is}
-
-is_there : {X : Type 0} (o : Option X) (x : X) → o ≡ Some x → IsSome o
-is_there {X = X} o x e = let P : Option X → Type 0 = IsSome in subst P (sym e) (search)
+use Rattle.plain_laws.proofs.Numbers.{is_number}
+use Rattle.plain_laws.proofs.Options.{is_some_of}
+use Rattle.model_laws.proofs.Resources.{same_resources}
 
 module _ (old new : Holdings) (resource : Resource) (region : ℕ) where
   -- one resource has other holders
@@ -42,7 +41,7 @@ module _ (old new : Holdings) (resource : Resource) (region : ℕ) where
             (if other == region && b then Some (raised (held_by old region resource) mode) else held_by old other
             one)
         by true is = has_it other ∙ else_same (other == region) (Some (raised (held_by old region resource) mode))
-            (held_by old other resource) (held_by old other one) (ap (held_by old other) (resource_is resource one is))
+            (held_by old other resource) (held_by old other one) (ap (held_by old other) (same_resources resource one is))
         by false is = no_matter (other == region) (Some (raised (held_by old region resource) mode))
             (held_by old other one)
 
@@ -59,7 +58,7 @@ module _ (old new : Holdings) (resource : Resource) (region : ℕ) where
             ∙ sym (put one) ∙ is in
             let it : h ≡ found = cc in (
               region,
-              is_there (mode_of found region) (raised (held_by old region resource) mode)
+              is_some_of (mode_of found region) (raised (held_by old region resource) mode)
                   (ap (λ holders. mode_of holders region) (sym it) ∙ here),
             )
         by false e = were one found (ap (λ b. if b then Some h else holders_in old one) (sym e)
@@ -78,7 +77,7 @@ module _ (old new : Holdings) (resource : Resource) (region : ℕ) where
             → option_and_then (λ holders. mode_of holders other) (if b then now else holders_in old one) ≡
             (if b && other == region then None else held_by old other one)
         by true is = left other ∙ ap (λ m. if other == region then None else m)
-            (ap (held_by old other) (resource_is resource one is))
+            (ap (held_by old other) (same_resources resource one is))
         by false is = refl
 
     pub leave_held : ((found : Holders) → now ≡ Some found → (number : ℕ) × IsSome (mode_of found number)) → AreHeld old

@@ -123,7 +123,7 @@ first_least n some small (suc place) e =
 
 -- ---- their numbers
 
-numbers_last : (n from : ℕ) → numbers_up (suc n) from ≡ numbers_up n from ++ (from + n) ∷ []
+pub numbers_last : (n from : ℕ) → numbers_up (suc n) from ≡ numbers_up n from ++ (from + n) ∷ []
 numbers_last zero from = let e : from ≡ from + 0 = omega arith in ap (λ k. k ∷ []) e
 numbers_last (suc n) from = let e : from + 1 + n ≡ from + suc n = omega arith in
     ap (λ ks. from ∷ ks) (numbers_last n (from + 1) ∙ ap (λ k. numbers_up n (from + 1) ++ k ∷ []) e)

@@ -14,6 +14,10 @@ use Rattle.fp_model.specs.Texts.{same_text}
 use Rattle.fp_model.specs.Waiting.{Lock, held_as, conflicts, is_exclusive, same_resource, blockers, without_region}
 use Rattle.ci_locks.specs.Standing.{Standing, Shows, is_in_conflict}
 use Rattle.ci_locks.specs.inside.Standing.{Frees, blocking, in_way}
+use Rattle.std.proofs.lemmas.Bool.{and_from, and_parts, not_from_false}
+use Rattle.plain_laws.proofs.Truths.{both_ways, not_true}
+use Rattle.plain_laws.proofs.Numbers.{is_number, number_is}
+use Rattle.model_laws.proofs.Resources.{resource_is_same, same_resources}
 
 -- ---- elements
 
@@ -34,33 +38,7 @@ from_in [] x i = absurd i
 from_in (y ∷ ys) x (inl e) = (0, omega arith, e)
 from_in (y ∷ ys) x (inr i) = let c = from_in ys x i in (suc c.0, omega (arith, c.1), c.2)
 
-pub both : (a b : Bool) → (a && b) ≡ true → (a ≡ true) × (b ≡ true)
-both true b e = (refl, e)
-both false b e = absurd (cc)
-
-pub and_true : (a b : Bool) → a ≡ true → b ≡ true → (a && b) ≡ true
-and_true true b e f = f
-and_true false b e f = absurd (cc)
-
-pub number_is : (a b : ℕ) → (a == b) ≡ true → a ≡ b
-number_is a b e = grind arith
-
-pub is_number : (a : ℕ) → (a == a) ≡ true
-is_number a = grind arith
-
 -- ---- resources
-
-pub resource_is : (a b : Resource) → same_resource a b ≡ true → a ≡ b
-resource_is (Segment m k) (Segment n l) e = let p = both (m == n) (same_text k l) e in
-    ap (λ x. Segment x k) (number_is m n p.0) ∙ ap (λ x. Segment n x) ((bytes_decides k l).0 p.1)
-resource_is (Segment m k) (Anchor d a) e = absurd (cc)
-resource_is (Anchor d a) (Segment m k) e = absurd (cc)
-resource_is (Anchor d a) (Anchor f b) e = let p = both (d == f) (a == b) e in
-    ap (λ x. Anchor x a) (number_is d f p.0) ∙ ap (λ x. Anchor f x) (number_is a b p.1)
-
-pub is_resource : (a : Resource) → same_resource a a ≡ true
-is_resource (Segment m k) = and_true (m == m) (same_text k k) (is_number m) ((bytes_decides k k).1 refl)
-is_resource (Anchor d a) = and_true (d == d) (a == a) (is_number d) (is_number a)
 
 -- ---- how a lock is held
 
@@ -77,8 +55,8 @@ held_some (l ∷ ls) lock i = by (l.region == lock.region && same_resource l.res
     by true e i rest = (l.mode, refl)
     by false e (inl same) rest =
         absurd (let P : Lock → Type 0 = λ x. (l.region == x.region && same_resource l.resource x.resource) ≡ true in
-        let yes = subst P same (and_true (l.region == l.region) (same_resource l.resource l.resource)
-        (is_number l.region) (is_resource l.resource)) in cc)
+        let yes = subst P same (and_from (l.region == l.region) (same_resource l.resource l.resource)
+        (is_number l.region) (resource_is_same l.resource)) in cc)
     by false e (inr i2) rest = rest i2
 
 -- a way that a resource is held is a lock in the list
@@ -96,10 +74,10 @@ held_in (l ∷ ls) region resource mode e = by (l.region == region && same_resou
         → (l ≡ record { region = region; resource = resource; mode = mode })
         ⊎ In ls (record { region = region; resource = resource; mode = mode })
     by true is e2 rest =
-        let p = both (l.region == region) (same_resource l.resource resource) is in
+        let p = and_parts (l.region == region) (same_resource l.resource resource) is in
         let m : l.mode ≡ mode = cc in
         inl (ap (λ r. record { region = r; resource = l.resource; mode = l.mode }) (number_is l.region region p.0)
-        ∙ ap (λ r. record { region = region; resource = r; mode = l.mode }) (resource_is l.resource resource p.1)
+        ∙ ap (λ r. record { region = region; resource = r; mode = l.mode }) (same_resources l.resource resource p.1)
         ∙ ap (λ r. record { region = region; resource = resource; mode = r }) m)
     by false is e2 rest = inr (rest e2)
 
@@ -128,24 +106,19 @@ in_any {X = X} p (l ∷ ls) e = by (p l) refl e (in_any p ls)
     by true is e2 rest = (l, inl refl, is)
     by false is e2 rest = let r = rest e2 in (r.0, inr r.1, r.2)
 
-pub bools : (a b : Bool) → (a ≡ true → b ≡ true) → (b ≡ true → a ≡ true) → a ≡ b
-bools true b there back = sym (there refl)
-bools false true there back = back refl
-bools false false there back = refl
-
 module _ (s : Standing) (locks requests : List Lock) (shows : Shows s locks requests) where
   -- a lock in the way shows in what its region holds
   pub lock_counts : (wanted lock : Lock) → In locks lock → conflicts wanted lock ≡ true
       → in_way s wanted lock.region ≡ true
   lock_counts wanted lock i e =
-      let o = both (not (lock.region == wanted.region) && same_resource lock.resource wanted.resource)
+      let o = and_parts (not (lock.region == wanted.region) && same_resource lock.resource wanted.resource)
       (is_exclusive lock.mode || is_exclusive wanted.mode) e in
-      let p = both (not (lock.region == wanted.region)) (same_resource lock.resource wanted.resource) o.0 in
+      let p = and_parts (not (lock.region == wanted.region)) (same_resource lock.resource wanted.resource) o.0 in
       let here = held_some locks lock i in
-      let same : lock.resource ≡ wanted.resource = resource_is lock.resource wanted.resource p.1 in
+      let same : lock.resource ≡ wanted.resource = same_resources lock.resource wanted.resource p.1 in
       let held : s.holds lock.region wanted.resource ≡ Some here.0 =
       ap (s.holds lock.region) (sym same) ∙ sym (shows.held lock.region lock.resource) ∙ here.1 in
-      and_true (not (lock.region == wanted.region)) (is_in_conflict (s.holds lock.region wanted.resource) wanted.mode)
+      and_from (not (lock.region == wanted.region)) (is_in_conflict (s.holds lock.region wanted.resource) wanted.mode)
       p.0
       (by lock.mode wanted.mode here.0 o.1 held (λ x. ap (s.holds lock.region) (sym same) ∙ shows.strongest lock
       (from_in locks lock i) x))
@@ -163,7 +136,7 @@ module _ (s : Standing) (locks requests : List Lock) (shows : Shows s locks requ
   pub way_counts : (wanted : Lock) (region : ℕ) → in_way s wanted region ≡ true → (lock : Lock) × In locks lock
       × (lock.region ≡ region) × (conflicts wanted lock ≡ true)
   way_counts wanted region e =
-      let p = both (not (region == wanted.region)) (is_in_conflict (s.holds region wanted.resource) wanted.mode) e in
+      let p = and_parts (not (region == wanted.region)) (is_in_conflict (s.holds region wanted.resource) wanted.mode) e in
       by (s.holds region wanted.resource) refl p.1 p.0
     where
       by : (o : Option Mode) → s.holds region wanted.resource ≡ o → is_in_conflict o wanted.mode ≡ true
@@ -175,23 +148,23 @@ module _ (s : Standing) (locks requests : List Lock) (shows : Shows s locks requ
             lock,
             held_in locks region wanted.resource mode (shows.held region wanted.resource ∙ is),
             refl,
-            and_true (not (region == wanted.region) && same_resource wanted.resource wanted.resource)
+            and_from (not (region == wanted.region) && same_resource wanted.resource wanted.resource)
                 (is_exclusive mode || is_exclusive wanted.mode)
-                (and_true (not (region == wanted.region)) (same_resource wanted.resource wanted.resource) apart
-                (is_resource wanted.resource)) e2,
+                (and_from (not (region == wanted.region)) (same_resource wanted.resource wanted.resource) apart
+                (resource_is_same wanted.resource)) e2,
           )
 
   -- the regions in the way, by the lists and by what stands
   pub same_way : (wanted : Lock) (region : ℕ) → list_any (λ lock. lock.region == region && conflicts wanted lock) locks
       ≡ in_way s wanted region
-  same_way wanted region = bools (list_any (λ lock. lock.region == region && conflicts wanted lock) locks)
+  same_way wanted region = both_ways (list_any (λ lock. lock.region == region && conflicts wanted lock) locks)
       (in_way s wanted region)
       (λ e. let l = in_any (λ lock. lock.region == region && conflicts wanted lock) locks e in
-      let p = both (l.0.region == region) (conflicts wanted l.0) l.2 in
+      let p = and_parts (l.0.region == region) (conflicts wanted l.0) l.2 in
       ap (in_way s wanted) (sym (number_is l.0.region region p.0)) ∙ lock_counts wanted l.0 l.1 p.1)
       (λ e. let l = way_counts wanted region e in
       any_in (λ lock. lock.region == region && conflicts wanted lock) locks l.0 l.1
-      (and_true (l.0.region == region) (conflicts wanted l.0) (ap (λ n. n == region) l.2 ∙ is_number region) l.3))
+      (and_from (l.0.region == region) (conflicts wanted l.0) (ap (λ n. n == region) l.2 ∙ is_number region) l.3))
 
   pub blockers_are : (wanted : Lock) → blockers s.regions locks wanted ≡ blocking s wanted
   blockers_are wanted = filter_agree (λ region. list_any (λ lock. lock.region == region && conflicts wanted lock) locks)
@@ -258,14 +231,6 @@ held_without region (l ∷ ls) other resource = by (l.region == region) (other =
     by false false is apart rest = ap (λ v. if l.region == other && same_resource l.resource resource then Some l.mode
         else v) rest
 
-pub not_true : (b : Bool) → not b ≡ true → b ≡ false
-not_true true e = absurd (cc)
-not_true false e = refl
-
-pub false_not : (b : Bool) → b ≡ false → not b ≡ true
-false_not true e = absurd (cc)
-false_not false e = refl
-
 pub freed : (s t : Standing) (region : ℕ) (locks requests : List Lock) → Frees s t region → Shows s locks requests
     → Shows t (without_region region locks) (without_region region requests)
 freed s t region locks requests frees sh = record {
@@ -290,7 +255,7 @@ freed s t region locks requests frees sh = record {
     by request true is e = absurd (cc)
     by request false is e = from_in (without_region region requests) request
         (filter_in (λ l. not (l.region == region)) requests request (to_in requests request ((sh.standing request).1 e))
-        (false_not (request.region == region) is))
+        (not_from_false (request.region == region) is))
 
 -- nothing is held, and nothing asked for
 pub nothing : (s : Standing) → ((region : ℕ) (resource : Resource) → s.holds region resource ≡ None)

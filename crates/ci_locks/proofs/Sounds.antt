@@ -3,7 +3,6 @@ use Rattle.std.proofs.Common.{refl, arith, ◌≡◌, ℕ, zero, suc, ◌<◌, �
 use mathlib.Core.Path.{fun_ext}
 use Rattle.std.specs.Prelude.{⊤, if◌then◌else◌, Contains, option_and_then, slice_set}
 use Rattle.std.proofs.lemmas.Bool.{cases_eq}
-use Rattle.std.proofs.lemmas.Bool.Decides.{nat_tests}
 use Rattle.fp_model.specs.declared.calls.Mode.{Mode}
 use Rattle.fp_model.specs.declared.calls.Resource.{Resource}
 use Rattle.fp_model.specs.Waiting.{Lock, same_resource}
@@ -21,13 +20,11 @@ use Rattle.ci_locks.specs.declared.state.Region.{Region}
 use Rattle.ci_locks.specs.declared.state.Request.{Request}
 use Rattle.ci_locks.specs.declared.state.State.{State}
 use Rattle.ci_locks.proofs.Regions.{at_here, at_other, at_push, set_long}
-use Rattle.ci_locks.proofs.Shown.{In, from_in, is_number, is_resource, resource_is, to_in}
-
-some_is : {X : Type 0} (a b : X) → Some a ≡ Some b → a ≡ b
-some_is a b e = cc
-
-unequal : (a b : ℕ) → (a ≡ b → ⊥) → (a == b) ≡ false
-unequal a b ne = grind (arith, nat_tests, ne)
+use Rattle.ci_locks.proofs.Shown.{In, from_in, to_in}
+use Rattle.plain_laws.proofs.Numbers.{is_number, other_number}
+use Rattle.model_laws.proofs.Resources.{resource_is_same, same_resources}
+use Rattle.plain_laws.proofs.Truths.{and_false}
+use Rattle.std.proofs.lemmas.Option.{same_Some}
 
 -- ---- one more in a list
 
@@ -63,7 +60,7 @@ contains_less xs y x c apart = by (in_less xs y x (to_in (xs ++ y ∷ []) x c))
   where
     by : In xs x ⊎ (y ≡ x) → Contains xs x
     by (inl i) = from_in xs x i
-    by (inr same) = absurd (apart (ap (same_resource y) (sym same) ∙ is_resource y))
+    by (inr same) = absurd (apart (ap (same_resource y) (sym same) ∙ resource_is_same y))
 
 -- ---- a request
 
@@ -93,7 +90,7 @@ module _ (s t : State) (place region : ℕ) (r next : Region) (holdings : t.hold
         (λ (ne : other ≡ region → ⊥).
         ap (region_request other) (at_others other ne)
         ∙ sym (ap (λ b. if b then lock_of region next.request else region_request other
-        (region_at s.regions.items other)) (unequal other region ne)))
+        (region_at s.regions.items other)) (other_number other region ne)))
         (cases_eq other region);
   }
 
@@ -103,7 +100,7 @@ module _ (s t : State) (place region : ℕ) (r next : Region) (holdings : t.hold
     right = λ n one is. let P : Holdings → Type 0 = λ h. IsRight h n one in subst P (sym holdings)
         (⊎_elim
         (λ (here : n ≡ region).
-        let it : next ≡ one = some_is next one (sym at_it ∙ ap (region_at t.regions.items) (sym here) ∙ is) in
+        let it : next ≡ one = same_Some next one (sym at_it ∙ ap (region_at t.regions.items) (sym here) ∙ is) in
         let Q : ℕ → Type 0 = λ k. IsRight s.holdings k one in
         let R : Region → Type 0 = IsRight s.holdings region in
         subst Q (sym here) (subst R it right))
@@ -113,7 +110,7 @@ module _ (s t : State) (place region : ℕ) (r next : Region) (holdings : t.hold
         let was : held_by s.holdings n resource ≡ Some mode = ap (λ h. held_by h n resource) (sym holdings) ∙ held in
         ⊎_elim
         (λ (here : n ≡ region).
-        let it : next ≡ one = some_is next one (sym at_it ∙ ap (region_at t.regions.items) (sym here) ∙ is) in
+        let it : next ≡ one = same_Some next one (sym at_it ∙ ap (region_at t.regions.items) (sym here) ∙ is) in
         let P : List Resource → Type 0 = λ list. Contains list resource in
         subst P (sym same ∙ ap (λ (x : Region). x.held.items) it)
         (sound.listed n r (ap (region_at s.regions.items) here ∙ there) resource mode was))
@@ -173,7 +170,7 @@ module _ (s t : State) (place region : ℕ) (r next : Region)
     few = let f = sound.few in omega (arith, list_long, f);
     right = λ k one is. ⊎_elim
         (λ (here : k ≡ region).
-        let it : next ≡ one = some_is next one (sym list_it ∙ ap (region_at t.regions.items) (sym here) ∙ is) in
+        let it : next ≡ one = same_Some next one (sym list_it ∙ ap (region_at t.regions.items) (sym here) ∙ is) in
         let P : Region → Type 0 = IsRight t.holdings k in
         subst P it (λ other. ahead other ∙ sound.right k r (ap (region_at s.regions.items) here ∙ there) other ∙
         same_ahead k r.request other ∙ ap (λ q. is_ahead t.holdings k q other) (sym request)))
@@ -184,7 +181,7 @@ module _ (s t : State) (place region : ℕ) (r next : Region)
         let was : held_by s.holdings k resource ≡ Some mode = sym (modes k resource) ∙ has_it in
         ⊎_elim
         (λ (here : k ≡ region).
-        let it : next ≡ one = some_is next one (sym list_it ∙ ap (region_at t.regions.items) (sym here) ∙ is) in
+        let it : next ≡ one = same_Some next one (sym list_it ∙ ap (region_at t.regions.items) (sym here) ∙ is) in
         let P : Region → Type 0 = λ x. Contains x.held.items resource in
         subst P it (kept resource (sound.listed k r (ap (region_at s.regions.items) here ∙ there) resource mode was)))
         (λ (ne : k ≡ region → ⊥). sound.listed k one (sym (list_others k ne) ∙ is) resource mode was)
@@ -242,7 +239,7 @@ module _ (s t : State) (n : News) (middle : List Region) (place region : ℕ) (n
       (λ (ne : other ≡ region → ⊥).
       ap (region_request other) (middle_others other ne)
       ∙ sym (ap (λ b. if b then None else region_request other (region_at s.regions.items other))
-      (unequal other region ne)))
+      (other_number other region ne)))
       (cases_eq other region)
 
   -- a region that is told is the one that changed, or one that stood
@@ -254,17 +251,13 @@ module _ (s t : State) (n : News) (middle : List Region) (place region : ℕ) (n
       let f = was_there n k (region_at middle k) new (subst Q is (told k)) in
       ⊎_elim
       (λ (same : k ≡ region).
-      let it : f.0 ≡ next = some_is f.0 next (sym f.1 ∙ ap (region_at middle) same ∙ middle_it) in
+      let it : f.0 ≡ next = same_Some f.0 next (sym f.1 ∙ ap (region_at middle) same ∙ middle_it) in
       let R : Region → Type 0 = λ o. Hears n k o new in
       here same (subst R it f.2))
       (λ (ne : k ≡ region → ⊥). else_where ne f.0 (sym (middle_others k ne) ∙ f.1) f.2)
       (cases_eq k region)
 
 -- ---- a lock is gained
-
-no_way : (b : Bool) → (b && false) ≡ false
-no_way true = refl
-no_way false = refl
 
 module _ (s t : State) (middle : List Region) (place region : ℕ) (r next : Region) (resource : Resource) (mode : Mode)
     (n : News) (holders : Holders)
@@ -301,11 +294,11 @@ module _ (s t : State) (middle : List Region) (place region : ℕ) (r next : Reg
           (not (other == k) && is_in_conflict (held_by t.holdings other q.resource) q.mode)
       asked q true same was =
           ap (λ found. not (other == k) && is_in_conflict (option_and_then (λ h2. mode_of h2 other) found) q.mode)
-          (sym has_holders ∙ ap (holders_in t.holdings) (resource_is resource q.resource same))
+          (sym has_holders ∙ ap (holders_in t.holdings) (same_resources resource q.resource same))
       asked q false apart was =
           was ∙ ap (λ m. not (other == k) && is_in_conflict m q.mode)
           (sym (modes other q.resource ∙ ap (λ b. if b then Some (raised (held_by s.holdings region resource) mode) else
-          held_by s.holdings other q.resource) (ap (λ b. (other == region) && b) apart ∙ no_way (other == region))))
+          held_by s.holdings other q.resource) (ap (λ b. (other == region) && b) apart ∙ and_false (other == region))))
 
       by : (q : Option Request) → has old.ahead.0 other ≡ is_ahead s.holdings k q other
           → ahead_of holders k (asked_mode resource q) (has old.ahead.0) other ≡ is_ahead t.holdings k q other
@@ -341,17 +334,17 @@ module _ (s t : State) (middle : List Region) (place region : ℕ) (r next : Reg
     where
       apart_mode : (k : ℕ) (one : Resource) → (k ≡ region → ⊥) → held_by t.holdings k one ≡ held_by s.holdings k one
       apart_mode k one ne = modes k one ∙ ap (λ b. if b && same_resource resource one then Some
-          (raised (held_by s.holdings region resource) mode) else held_by s.holdings k one) (unequal k region ne)
+          (raised (held_by s.holdings region resource) mode) else held_by s.holdings k one) (other_number k region ne)
 
       listed_here : (one : Resource) (m : Mode) → held_by t.holdings region one ≡ Some m → Contains next.held.items one
       listed_here one m has_it = by (same_resource resource one) refl
         where
           by : (b : Bool) → same_resource resource one ≡ b → Contains next.held.items one
           by true same = let P : Resource → Type 0 = Contains next.held.items in
-              subst P (resource_is resource one same) added
+              subst P (same_resources resource one same) added
           by false apart = kept one (sound.listed region r there one m
               (sym (modes region one ∙ ap (λ b. if b then Some (raised (held_by s.holdings region resource) mode) else
-              held_by s.holdings region one) (ap (λ b. (region == region) && b) apart ∙ no_way (region == region)))
+              held_by s.holdings region one) (ap (λ b. (region == region) && b) apart ∙ and_false (region == region)))
               ∙ has_it))
 
 -- ---- a region drops its locks
@@ -386,14 +379,14 @@ module _ (s t : State) (middle : List Region) (place region : ℕ) (next : Regio
 
       by : (q : Option Request) → (not (other == region) && is_ahead s.holdings k q other) ≡ is_ahead t.holdings k q
           other
-      by None = no_way (not (other == region))
+      by None = and_false (not (other == region))
       by (Some q) = gone (other == region) (not (other == k)) (held_by s.holdings other q.resource) q.mode ∙ ap
           (λ m. not (other == k) && is_in_conflict m q.mode) (sym (modes other q.resource))
 
   freed_here : (k : ℕ) (new : Region) → Hears n k next new → IsRight t.holdings k new
   freed_here k new h other =
       h.ahead other ∙ hears k next.request (has next.ahead.0) other ∙ ap (λ b. not (other == region) && b) (alone other)
-      ∙ no_way (not (other == region))
+      ∙ and_false (not (other == region))
       ∙ ap (λ q. is_ahead t.holdings k q other) (sym idle ∙ sym h.request)
 
   not_held : (k : ℕ) (one : Resource) (m : Mode) → k ≡ region → held_by t.holdings k one ≡ Some m → ⊥
@@ -403,7 +396,7 @@ module _ (s t : State) (middle : List Region) (place region : ℕ) (next : Regio
       absurd (let wrong : None ≡ Some m = sym none ∙ has_it in cc)
 
   held_still : (k : ℕ) (one : Resource) → (k ≡ region → ⊥) → held_by t.holdings k one ≡ held_by s.holdings k one
-  held_still k one ne = modes k one ∙ ap (λ b. if b then None else held_by s.holdings k one) (unequal k region ne)
+  held_still k one ne = modes k one ∙ ap (λ b. if b then None else held_by s.holdings k one) (other_number k region ne)
 
   pub frees_sound : IsSound t
   frees_sound = record {

@@ -10,20 +10,8 @@ use Rattle.ci_locks.specs.Cycles.{IsNoLater}
 use Rattle.ci_locks.specs.Graph.{is_in}
 use Rattle.ci_locks.specs.inside.Graph.{Along}
 use Rattle.ci_locks.proofs.Firsts.{GoesOn, apart_of, goes_on, no_later_front, no_later_next}
-
-number_is : (a b : ℕ) → (a == b) ≡ true → a ≡ b
-number_is a b e = grind arith
-
-is_number : (a : ℕ) → (a == a) ≡ true
-is_number a = grind arith
-
-or_left : (a b : Bool) → a ≡ true → (a || b) ≡ true
-or_left true b e = refl
-or_left false b e = absurd (cc)
-
-or_right : (a b : Bool) → b ≡ true → (a || b) ≡ true
-or_right true b e = refl
-or_right false b e = e
+use Rattle.plain_laws.proofs.Numbers.{is_number, number_is}
+use Rattle.std.proofs.lemmas.Bool.{or_left, or_right}
 
 or_elim : {P : Type 0} (a b : Bool) → (a || b) ≡ true → (a ≡ true → P) → (b ≡ true → P) → P
 or_elim true b e left right = left refl

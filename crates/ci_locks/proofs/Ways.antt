@@ -1,5 +1,5 @@
 -- The sets of the code lead along those that regions wait for.
-use Rattle.std.proofs.Common.{refl, arith, ◌≡◌, ℕ, zero, suc, ◌≤◌, List, [], ◌∷◌, length, Bool, true, false, not, ◌&&◌, ◌==◌, Option, Some, None, ap, sym, ◌∙◌}
+use Rattle.std.proofs.Common.{refl, arith, ◌≡◌, ℕ, zero, suc, ◌≤◌, List, [], ◌∷◌, length, Bool, true, false, not, ◌==◌, Option, Some, None, ap, sym, ◌∙◌}
 use Rattle.std.specs.Prelude.{if◌then◌else◌}
 use Rattle.std.proofs.lemmas.Nat.Bits.{bit_at-zero}
 use Rattle.fp_model.specs.declared.calls.Mode.{Mode}
@@ -21,6 +21,7 @@ use Rattle.ci_locks.specs.declared.state.Request.{Request}
 use Rattle.ci_locks.specs.declared.state.State.{State}
 use Rattle.ci_locks.proofs.Answered.{Owns}
 use Rattle.ci_locks.proofs.Members.{is_kept, is_member, kept_passes, member_is}
+use Rattle.std.proofs.lemmas.Bool.{and_parts}
 
 -- what leads one way leads another, where each step does
 pub along_by : (f g : ℕ → List ℕ) → ((a b : ℕ) → is_in (f a) b ≡ true → is_in (g a) b ≡ true)
@@ -45,10 +46,6 @@ owns_all s a q e = by (region_at s.regions.items a) e
 no_conflict : (m : Mode) → is_in_conflict None m ≡ true → ⊥
 no_conflict m e = absurd (cc)
 
-both : (a b : Bool) → (a && b) ≡ true → (a ≡ true) × (b ≡ true)
-both true b e = (refl, e)
-both false b e = absurd (cc)
-
 none_has : (b : ℕ) → has 0 b ≡ false
 none_has zero = refl
 none_has (suc place) = ap (λ bit. bit == 1) (bit_at-zero place)
@@ -67,7 +64,7 @@ module _ (s : State) (sound : IsSound s) where
   pub way_within : (wanted : Lock) (other : ℕ) → in_way (standing_of s) wanted other ≡ true → (1 ≤ other)
       × (other ≤ length s.regions.items)
   way_within wanted other e = conflict_within other wanted.resource wanted.mode
-      (both (not (other == wanted.region)) (is_in_conflict (held_by s.holdings other wanted.resource) wanted.mode) e).1
+      (and_parts (not (other == wanted.region)) (is_in_conflict (held_by s.holdings other wanted.resource) wanted.mode) e).1
 
   -- a set that has those in the way of a request is the list of them
   in_list : (wanted : Lock) (word : ℕ) → ((other : ℕ) → has word other ≡ in_way (standing_of s) wanted other) → (b : ℕ)
@@ -148,7 +145,7 @@ module _ (s : State) (sound : IsSound s) where
                 × (b ≤ length s.regions.items)
             of_request None e2 = absurd (cc)
             of_request (Some request) e2 = conflict_within b request.resource request.mode
-                (both (not (b == a)) (is_in_conflict (held_by s.holdings b request.resource) request.mode) e2).1
+                (and_parts (not (b == a)) (is_in_conflict (held_by s.holdings b request.resource) request.mode) e2).1
 
         by : (t : Bool) → has (if t then found else set_of (region_at s.regions.items a)) b ≡ true → (1 ≤ b)
             × (b ≤ length s.regions.items)

@@ -4,12 +4,12 @@ use Rattle.ci_space.specs.declared.intervals.Shape.{Shape}
 use Rattle.ci_overflow.specs.Lists.{bytes_at, link_of, IsChain, Holds, IsOnce, IsOwned}
 use Rattle.ci_overflow.specs.Faults.{Leads, here, on, HoldsLink, in_list, IsAtFault, circle}
 use Rattle.ci_overflow.specs.Known.{AreFullTo, the_last, in_front}
-use Rattle.ci_overflow.proofs.Finds.{same_or}
+use Rattle.plain_laws.proofs.Numbers.{same_or_other}
 
 -- whether a list holds an interval
 pub holds_or : (list : List ℕ) (ci : ℕ) → Holds list ci ⊎ (¬ Holds list ci)
 holds_or [] ci = inr (λ h. h)
-holds_or (x ∷ rest) ci = elim (same_or x ci) as (λ _. Holds (x ∷ rest) ci ⊎ (¬ Holds (x ∷ rest) ci)) [
+holds_or (x ∷ rest) ci = elim (same_or_other x ci) as (λ _. Holds (x ∷ rest) ci ⊎ (¬ Holds (x ∷ rest) ci)) [
   | inl e ↦ inl (inl e)
   | inr n ↦ elim (holds_or rest ci) as (λ _. Holds (x ∷ rest) ci ⊎ (¬ Holds (x ∷ rest) ci)) [
     | inl h ↦ inl (inr h)
@@ -25,7 +25,7 @@ record IsWithout (list rest : List ℕ) (ci : ℕ) : Type 0 where
 
 take_out : (ci : ℕ) (list : List ℕ) → IsOnce list → (rest : List ℕ) × IsWithout list rest ci
 take_out ci [] o = ([], record { held = λ k h. absurd h; once = tt; long = omega arith })
-take_out ci (x ∷ list) o = elim (same_or x ci) as (λ _. (rest : List ℕ) × IsWithout (x ∷ list) rest ci) [
+take_out ci (x ∷ list) o = elim (same_or_other x ci) as (λ _. (rest : List ℕ) × IsWithout (x ∷ list) rest ci) [
   | inl e ↦ (
     list,
     record {

@@ -13,8 +13,8 @@ use Rattle.ci_overflow.specs.inside.Moves.{HasNoUnit}
 use Rattle.ci_overflow.specs.declared.reading.Place.{Place}
 use Rattle.ci_overflow.proofs.Joins.{kind-behind, link-zero, owner-zero}
 use Rattle.ci_overflow.proofs.Tries.{keeps-owner}
-use Rattle.ci_overflow.proofs.Finds.{same_or}
 use Rattle.ci_overflow.proofs.Circles.{no-circle, chain-leads}
+use Rattle.plain_laws.proofs.Numbers.{same_or_other}
 
 -- no interval is past the end
 pub past-none : (area : List (List ℕ)) (ci : ℕ) → length area ≤ ci → IsInterval (bytes_at area ci) → ⊥
@@ -158,7 +158,7 @@ unit-fault shape area ci interval k b five n h = elim (cases_lt ci (first_indepe
           (sym p.is_kind ∙ keeps-kind (bytes_at area ci) interval k ∙ five))
       | inr f ↦
           (let owner : owner_of interval ≡ owner_of (bytes_at area ci) = keeps-owner (bytes_at area ci) interval k in
-          elim (same_or (owner_of interval) 0) as (λ _. IsAtFault shape area ci) [
+          elim (same_or_other (owner_of interval) 0) as (λ _. IsAtFault shape area ci) [
             | inl z ↦ in_use (record { from = f; below = b; owned = sym owner ∙ z }) n
             | inr z ↦
                 (let w : IsOwned shape area (owner_of interval) ci = record {
@@ -222,7 +222,7 @@ list_goes shape area owner first ci h w z = h.is_list.owned (link_of (bytes_at a
 
 owned_goes : (shape : Shape) (area : List (List ℕ)) (owner ci : ℕ) → IsInOrder shape area → IsOwned shape area owner ci
     → link_of (bytes_at area ci) ≢ 0 → IsOwned shape area owner (link_of (bytes_at area ci))
-owned_goes shape area owner ci o w z = elim (same_or owner 0) as
+owned_goes shape area owner ci o w z = elim (same_or_other owner 0) as
     (λ _. IsOwned shape area owner (link_of (bytes_at area ci))) [
       | inl e ↦ (let v : IsOwned shape area 0 ci = (let P : ℕ → Type 0 = λ d. IsOwned shape area d ci in subst P e w) in
           let P : ℕ → Type 0 = λ d. IsOwned shape area d (link_of (bytes_at area ci)) in
@@ -317,7 +317,7 @@ pub in-order-sound : (shape : Shape) (area : List (List ℕ)) (ci : ℕ) → IsI
 in-order-sound shape area ci o (misplaced h n) = n (o.in_place ci (place_below shape area ci o h))
 in-order-sound shape area ci o (bad_link owner link h z n) =
     n (kept_shared shape area owner link o (link_goes shape area owner ci link o h z))
-in-order-sound shape area ci o (circle owner w l) = elim (same_or owner 0) as (λ _. ⊥) [
+in-order-sound shape area ci o (circle owner w l) = elim (same_or_other owner 0) as (λ _. ⊥) [
   | inl e ↦ (let v : IsOwned shape area 0 ci = (let P : ℕ → Type 0 = λ d. IsOwned shape area d ci in subst P e w) in
       let h : HasList shape area 0 (first_free area) = o.listed.of_free in
       no-circle area (first_free area) ci h.list h.is_list.chain h.is_list.once (h.is_list.each ci v)

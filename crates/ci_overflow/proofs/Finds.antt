@@ -16,13 +16,7 @@ use Rattle.ci_overflow.specs.Rooms.{places, IsNext, IsFirstPlace, KeepsUsed, Onl
 use Rattle.ci_overflow.specs.inside.Rooms.{JoinsNext}
 use Rattle.ci_overflow.proofs.Joins.{base-before, keeps-head, root-zero, counted-put, first_free-put, link-known, kind-known}
 use Rattle.ci_overflow.proofs.Tries.{option_some, option_none}
-
-pub same_or : (a b : ℕ) → (a ≡ b) ⊎ (a ≢ b)
-same_or a b = elim (cases_lt a b) as (λ _. (a ≡ b) ⊎ (a ≢ b)) [
-  | inl l ↦ inr (λ e. omega (arith, l, e))
-  | inr l ↦ elim (cases_lt b a) as (λ _. (a ≡ b) ⊎ (a ≢ b))
-      [ inl m ↦ inr (λ e. omega (arith, m, e)) | inr m ↦ inl (omega (arith, l, m)) ]
-]
+use Rattle.plain_laws.proofs.Numbers.{same_or_other}
 
 pub used-same : (old new : List ℕ) → new ≡ old → KeepsUsed old new
 used-same old new e = record {
@@ -98,14 +92,14 @@ taken-standing shape old new anchor n room z a = record {
   ends = ends-same (bytes_at old 0) (bytes_at new 0) (a.others 0 (λ e. z (sym e)));
   base = λ h. but-link-same (bytes_at old (first_base shape (uow_of shape anchor)))
       (bytes_at new (first_base shape (uow_of shape anchor))) (a.others (first_base shape (uow_of shape anchor)) h);
-  roots = λ other. elim (same_or other room.0) as (λ _. (head_of (bytes_at new other)).root ≡
+  roots = λ other. elim (same_or_other other room.0) as (λ _. (head_of (bytes_at new other)).root ≡
       (head_of (bytes_at old other)).root) [
         | inl e ↦ root_at old new room.0 other e (root-same (bytes_at old room.0) (bytes_at new room.0)
             (keeps-head (bytes_at old room.0) (bytes_at new room.0) a.head))
         | inr h ↦ root-same (bytes_at old other) (bytes_at new other) (ap head_of (a.others other h))
       ];
   longer = omega (arith, a.same_number);
-  kinds = λ other. elim (same_or other room.0) as (λ _. KindStays (bytes_at old other) (bytes_at new other)) [
+  kinds = λ other. elim (same_or_other other room.0) as (λ _. KindStays (bytes_at old other) (bytes_at new other)) [
     | inl e ↦ kind_where old new room.0 other e
         (λ _. (a.takes.is_interval, a.head 0 (omega arith) (omega arith)))
     | inr h ↦ kind-same (bytes_at old other) (bytes_at new other) (a.others other h)
@@ -152,7 +146,7 @@ found-standing shape old new anchor n room o u f =
     (taken-standing shape old new anchor n room z a)
 
 -- nothing is used past the end of an area, nor in an empty interval
-none_past : (bytes : List ℕ) (at segment : ℕ) (content : List ℕ) → bytes ≡ [] → HasUsed bytes at segment content → ⊥
+pub none_past : (bytes : List ℕ) (at segment : ℕ) (content : List ℕ) → bytes ≡ [] → HasUsed bytes at segment content → ⊥
 none_past bytes at segment content e u =
     let b : (512 ≤ length bytes) × (length bytes ≤ 4096) = size-bounds (length bytes) u.tiles.size in
     let z : length bytes ≡ 0 = ap length e in
@@ -210,9 +204,9 @@ changes shape uow ci n at number first old g m new control bytes u b l s e p j h
     record {
       others = record {
         here = h;
-        elsewhere = λ other x. elim (same_or other 0) as (λ _. KeepsUsed (bytes_at old other) (bytes_at new other)) [
+        elsewhere = λ other x. elim (same_or_other other 0) as (λ _. KeepsUsed (bytes_at old other) (bytes_at new other)) [
           | inl y ↦ (let w : KeepsUsed (bytes_at old 0) (bytes_at new 0) = (rw (← ez) at e.used) in rw (← y) at w)
-          | inr y ↦ elim (same_or other (first_base shape uow)) as
+          | inr y ↦ elim (same_or_other other (first_base shape uow)) as
               (λ _. KeepsUsed (bytes_at old other) (bytes_at new other)) [
                 | inl z ↦ (let P : ℕ → Type 0 = λ d. KeepsUsed (bytes_at old d) (bytes_at new d) in
                     subst P (sym z) k.used)
@@ -231,29 +225,29 @@ changes shape uow ci n at number first old g m new control bytes u b l s e p j h
         head = head_link (head_of (bytes_at old (first_base shape uow)))
             (head_of (bytes_at new (first_base shape uow))) ci k.head;
       };
-      roots = λ other. elim (same_or other 0) as (λ _. (head_of (bytes_at new other)).root ≡
+      roots = λ other. elim (same_or_other other 0) as (λ _. (head_of (bytes_at new other)).root ≡
           (head_of (bytes_at old other)).root) [
             | inl y ↦ root_at old new 0 other y (root-same (bytes_at old 0) (bytes_at new 0)
                 (ap head_of ez ∙ keeps-head (bytes_at old 0) control e.head))
-            | inr y ↦ elim (same_or other (first_base shape uow)) as
+            | inr y ↦ elim (same_or_other other (first_base shape uow)) as
                 (λ _. (head_of (bytes_at new other)).root ≡ (head_of (bytes_at old other)).root) [
                   | inl z ↦ root_at old new (first_base shape uow) other z
                       (root-known (bytes_at new (first_base shape uow)) _ k.head)
-                  | inr z ↦ elim (same_or other ci) as (λ _. (head_of (bytes_at new other)).root ≡
+                  | inr z ↦ elim (same_or_other other ci) as (λ _. (head_of (bytes_at new other)).root ≡
                       (head_of (bytes_at old other)).root) [
                         | inl x ↦ root_at old new ci other x (root-known (bytes_at new ci) _ j.head ∙ sym r)
                         | inr x ↦ root-same (bytes_at old other) (bytes_at new other) (ap head_of (named other y z x))
                       ]
                 ]
           ];
-      kinds = λ other. elim (same_or other 0) as (λ _. KindStays (bytes_at old other) (bytes_at new other)) [
+      kinds = λ other. elim (same_or_other other 0) as (λ _. KindStays (bytes_at old other) (bytes_at new other)) [
         | inl y ↦ kind_where old new 0 other y
             (λ _. (rw (← ez) at e.is_interval, ap kind_of ez ∙ e.head 0 (omega arith) (omega arith)))
-        | inr y ↦ elim (same_or other (first_base shape uow)) as
+        | inr y ↦ elim (same_or_other other (first_base shape uow)) as
             (λ _. KindStays (bytes_at old other) (bytes_at new other)) [
               | inl z ↦ kind_where old new (first_base shape uow) other z
                   (λ _. (k.is_interval, kind-known (bytes_at new (first_base shape uow)) _ k.head))
-              | inr z ↦ elim (same_or other ci) as (λ _. KindStays (bytes_at old other) (bytes_at new other)) [
+              | inr z ↦ elim (same_or_other other ci) as (λ _. KindStays (bytes_at old other) (bytes_at new other)) [
                 | inl x ↦ kind_where old new ci other x
                     (λ i. (j.takes.is_interval, kind-known (bytes_at new ci) _ j.head ∙ sym (five i)))
                 | inr x ↦ kind-same (bytes_at old other) (bytes_at new other) (named other y z x)
@@ -345,7 +339,7 @@ taken_new shape old new anchor n room u b none j =
 pub taken-next : (shape : Shape) (old new : List (List ℕ)) (anchor n : ℕ) (room : ℕ × ℕ)
     → uow_of shape anchor < shape.uows → 0 < shape.base → JoinsNext shape (uow_of shape anchor) old new n room
     → TakesRoom shape old new anchor n room
-taken-next shape old new anchor n room u b j = elim (same_or (first_free old) 0) as
+taken-next shape old new anchor n room u b j = elim (same_or_other (first_free old) 0) as
     (λ _. TakesRoom shape old new anchor n room) [
       | inl z ↦ taken_new shape old new anchor n room u b z (j.from_end z)
       | inr z ↦ taken_free shape old new anchor n room u b (j.from_free z)
@@ -353,7 +347,7 @@ taken-next shape old new anchor n room u b j = elim (same_or (first_free old) 0)
 
 is_next : (shape : Shape) (uow : ℕ) (old new : List (List ℕ)) (n : ℕ) (room : ℕ × ℕ)
     → JoinsNext shape uow old new n room → IsNext old room.0
-is_next shape uow old new n room j = elim (same_or (first_free old) 0) as (λ _. IsNext old room.0) [
+is_next shape uow old new n room j = elim (same_or_other (first_free old) 0) as (λ _. IsNext old room.0) [
   | inl z ↦ inr (z, (j.from_end z).is_last)
   | inr z ↦ inl ((λ e. z (sym (j.from_free z).is_first ∙ e)), (j.from_free z).is_first)
 ]

@@ -13,10 +13,11 @@ use Rattle.ci_overflow.specs.Rooms.{KeepsUsed, IsInUse, IsPut, KeepsButLink}
 use Rattle.ci_overflow.specs.Freed.{BecomesEmpty, TakesBack, GivesBack}
 use Rattle.ci_overflow.specs.inside.Moves.{Moves}
 use Rattle.ci_overflow.proofs.Joins.{keeps-head, root-zero, kind-behind, counted-put, first_free-put, link-known, owner-known, kind-known}
-use Rattle.ci_overflow.proofs.Finds.{same_or, used-same, ends-same, but-link-same, head_link, root-same, root_at, root-known, control-first, KindStays, kind-same, kind_where}
+use Rattle.ci_overflow.proofs.Finds.{used-same, ends-same, but-link-same, head_link, root-same, root_at, root-known, control-first, KindStays, kind-same, kind_where}
 use Rattle.ci_overflow.proofs.Tries.{keeps-link}
-use Rattle.ci_overflow.proofs.Orders.{order-changed}
+use Rattle.ci_overflow.proofs.Orders.{counted-same, order-changed}
 use Rattle.ci_overflow.proofs.FaultLemmas.{kind-base, kind-before}
+use Rattle.plain_laws.proofs.Numbers.{same_or_other}
 
 -- an element of an interval is freed
 pub record FreesAt (old new : List ℕ) (at : ℕ) : Type 0 where
@@ -100,10 +101,6 @@ given-back shape old new ci at o b t = record {
   same_number = t.same_number;
 }
 
-counted_same : (old new : List (List ℕ)) → bytes_at new 0 ≡ bytes_at old 0 → counted new ≡ counted old
-unfolding counted
-counted_same old new e = ap (λ (xs : List ℕ). slice_index (ends_of xs) 2) e
-
 -- an interval that stays where it is
 module _ (shape : Shape) (old m new : List (List ℕ)) (ci at : ℕ) (interval : List ℕ) (e : m ≡ old)
     (f : FreesAt (bytes_at old ci) interval at) (p : IsPut m new ci interval) where
@@ -137,7 +134,7 @@ module _ (shape : Shape) (old m new : List (List ℕ)) (ci at : ℕ) (interval :
     named = λ other _ h _. put_others other h;
     links = λ other _ h. but-link-same (bytes_at old other) (bytes_at new other) (put_others other h);
     ends = λ z. ends-same (bytes_at old 0) (bytes_at new 0) (put_others 0 (λ x. z (sym x)));
-    roots = λ other. elim (same_or other ci) as (λ _. (head_of (bytes_at new other)).root ≡
+    roots = λ other. elim (same_or_other other ci) as (λ _. (head_of (bytes_at new other)).root ≡
         (head_of (bytes_at old other)).root) [
           | inl x ↦ root_at old new ci other x (root-same (bytes_at old ci) (bytes_at new ci)
               (keeps-head (bytes_at old ci) (bytes_at new ci) put_frees.head))
@@ -145,13 +142,13 @@ module _ (shape : Shape) (old m new : List (List ℕ)) (ci at : ℕ) (interval :
         ];
     sequential = λ other h k. put_others other h;
     same_number = p.same_number ∙ ap length e;
-    kinds = λ other. elim (same_or other ci) as (λ _. KindStays (bytes_at old other) (bytes_at new other)) [
+    kinds = λ other. elim (same_or_other other ci) as (λ _. KindStays (bytes_at old other) (bytes_at new other)) [
       | inl x ↦ kind_where old new ci other x
           (λ _. (put_frees.is_interval, put_frees.head 0 (omega arith) (omega arith)))
       | inr x ↦ kind-same (bytes_at old other) (bytes_at new other) (put_others other x)
     ];
     relinked = λ other _ h. inl (put_others other h);
-    same_count = λ z. counted_same old new (put_others 0 (λ x. z (sym x)));
+    same_count = λ z. counted-same old new (put_others 0 (λ x. z (sym x)));
   }
 
 -- an interval that moves to the free chain
@@ -182,9 +179,9 @@ module _ (shape : Shape) (old new : List (List ℕ)) (ci at : ℕ) (interval : L
     gone = λ u. used-not_empty (bytes_at new ci) at u v.is_empty;
     others = record {
       here = others_used (bytes_at old ci) interval (bytes_at new ci) at f.others v.used;
-      elsewhere = λ other h. elim (same_or other 0) as (λ _. KeepsUsed (bytes_at old other) (bytes_at new other)) [
+      elsewhere = λ other h. elim (same_or_other other 0) as (λ _. KeepsUsed (bytes_at old other) (bytes_at new other)) [
         | inl y ↦ (let P : ℕ → Type 0 = λ d. KeepsUsed (bytes_at old d) (bytes_at new d) in subst P (sym y) v.ends.used)
-        | inr y ↦ elim (same_or other v.before) as (λ _. KeepsUsed (bytes_at old other) (bytes_at new other)) [
+        | inr y ↦ elim (same_or_other other v.before) as (λ _. KeepsUsed (bytes_at old other) (bytes_at new other)) [
           | inl z ↦ (let P : ℕ → Type 0 = λ d. KeepsUsed (bytes_at old d) (bytes_at new d) in
               subst P (sym z) v.link.used)
           | inr z ↦ used-same (bytes_at old other) (bytes_at new other) (v.others other y z h)
@@ -198,7 +195,7 @@ module _ (shape : Shape) (old new : List (List ℕ)) (ci at : ℕ) (interval : L
     };
     kept = λ n. absurd (n (record { is_independent = five; is_empty = v.is_empty }));
     named = moved_named;
-    links = λ other z h. elim (same_or other v.before)
+    links = λ other z h. elim (same_or_other other v.before)
         as (λ _. KeepsButLink (bytes_at old other) (bytes_at new other)) [
           | inl y ↦ (let P : ℕ → Type 0 = λ d. KeepsButLink (bytes_at old d) (bytes_at new d) in
               subst P (sym y) (record {
@@ -214,14 +211,14 @@ module _ (shape : Shape) (old new : List (List ℕ)) (ci at : ℕ) (interval : L
       end = ap (λ (xs : List ℕ). slice_index xs 1) v.ends.ends;
       head = v.ends.head;
     };
-    roots = λ other. elim (same_or other 0) as (λ _. (head_of (bytes_at new other)).root ≡
+    roots = λ other. elim (same_or_other other 0) as (λ _. (head_of (bytes_at new other)).root ≡
         (head_of (bytes_at old other)).root) [
           | inl y ↦ root_at old new 0 other y (root-same (bytes_at old 0) (bytes_at new 0)
               (keeps-head (bytes_at old 0) (bytes_at new 0) v.ends.head))
-          | inr y ↦ elim (same_or other v.before) as (λ _. (head_of (bytes_at new other)).root ≡
+          | inr y ↦ elim (same_or_other other v.before) as (λ _. (head_of (bytes_at new other)).root ≡
               (head_of (bytes_at old other)).root) [
                 | inl z ↦ root_at old new v.before other z (root-known (bytes_at new v.before) _ v.link.head)
-                | inr z ↦ elim (same_or other ci) as (λ _. (head_of (bytes_at new other)).root ≡
+                | inr z ↦ elim (same_or_other other ci) as (λ _. (head_of (bytes_at new other)).root ≡
                     (head_of (bytes_at old other)).root) [
                       | inl x ↦ root_at old new ci other x
                           (root-known (bytes_at new ci) _ v.head ∙ sym
@@ -232,13 +229,13 @@ module _ (shape : Shape) (old new : List (List ℕ)) (ci at : ℕ) (interval : L
         ];
     sequential = λ other h k. v.others other (λ z. omega (arith, sym k ∙ ap (kind_at shape) z)) (moved_apart other k) h;
     same_number = v.same_number;
-    kinds = λ other. elim (same_or other 0) as (λ _. KindStays (bytes_at old other) (bytes_at new other)) [
+    kinds = λ other. elim (same_or_other other 0) as (λ _. KindStays (bytes_at old other) (bytes_at new other)) [
       | inl y ↦ kind_where old new 0 other y
           (λ _. (v.ends.is_interval, v.ends.head 0 (omega arith) (omega arith)))
-      | inr y ↦ elim (same_or other v.before) as (λ _. KindStays (bytes_at old other) (bytes_at new other)) [
+      | inr y ↦ elim (same_or_other other v.before) as (λ _. KindStays (bytes_at old other) (bytes_at new other)) [
         | inl z ↦ kind_where old new v.before other z
             (λ _. (v.link.is_interval, kind-known (bytes_at new v.before) _ v.link.head))
-        | inr z ↦ elim (same_or other ci) as (λ _. KindStays (bytes_at old other) (bytes_at new other)) [
+        | inr z ↦ elim (same_or_other other ci) as (λ _. KindStays (bytes_at old other) (bytes_at new other)) [
           | inl x ↦ kind_where old new ci other x (λ _. (
             record { elements = _; tiles = v.is_empty },
             kind-known (bytes_at new ci) _ v.head ∙ sym five,
@@ -247,7 +244,7 @@ module _ (shape : Shape) (old new : List (List ℕ)) (ci at : ℕ) (interval : L
         ]
       ]
     ];
-    relinked = λ other y x. elim (same_or other v.before) as (λ _. (bytes_at new other ≡ bytes_at old other)
+    relinked = λ other y x. elim (same_or_other other v.before) as (λ _. (bytes_at new other ≡ bytes_at old other)
         ⊎ (link_of (bytes_at new other) ≡ link_of (bytes_at old ci))) [
           | inl z ↦ inr (ap (λ k. link_of (bytes_at new k)) z ∙ link-known (bytes_at new v.before) _ v.link.head
               ∙ keeps-link (bytes_at old ci) interval f.head)

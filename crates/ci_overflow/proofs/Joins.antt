@@ -14,6 +14,7 @@ use Rattle.ci_overflow.specs.Places.{first_base, first_independent, kind_at}
 use Rattle.ci_overflow.specs.Lists.{bytes_at, link_of, owner_of, counted, first_free}
 use Rattle.ci_overflow.specs.Rooms.{KeepsUsed, TakesIn, IsPut, ChangesLink, ChangesEnds, PutsEnds, Joins, IsGrown, JoinsFree, JoinsNew}
 use Rattle.ci_overflow.specs.inside.Rooms.{JoinsNext}
+use Rattle.plain_laws.proofs.Lists.{keeps_dropped}
 
 -- an interval whose elements stay
 pub tiles-used : (old new : List ℕ) → IsInterval old → ((es : List Element) → Tiles old es → Tiles new es)
@@ -141,18 +142,6 @@ changes-ends old new number first given i g e k f = record {
   used = tiles-used old new i f;
   is_interval = tiles-interval old new i f;
 }
-
--- control's numbers change
-pub on_ok-map : {A E : Type 0} (r : Result A E) (P Q : Type 0) → (P → Q) → OnOk r P → OnOk r Q
-on_ok-map (Ok a) P Q f p = f p
-on_ok-map (Err e) P Q f p = tt
-
-keeps_dropped : (old new : List ℕ) → drop 64 new ≡ drop 64 old → (k : ℕ) → 64 ≤ k
-    → slice_index new k ≡ slice_index old k
-keeps_dropped old new e k l =
-    let j : 64 + (k - 64) ≡ k = omega arith in
-    ap (λ n. get_or new n 0) (sym j) ∙ sym (get_or-drop 64 new (k - 64) 0) ∙ ap (λ xs. get_or xs (k - 64) 0) e ∙
-    get_or-drop 64 old (k - 64) 0 ∙ ap (λ n. get_or old n 0) j
 
 given_ends : (xs ys : List ℕ) (number first : ℕ) → xs ≡ ys
     → slice_index xs 0 ∷ slice_index xs 1 ∷ number ∷ first ∷ [] ≡ slice_index ys 0 ∷ slice_index ys 1 ∷ number ∷ first ∷

@@ -13,9 +13,9 @@ use Rattle.ci_overflow.specs.inside.Rooms.{IsLeft, IsOnChain, JoinsNext}
 use Rattle.ci_overflow.specs.Known.{AreFullTo, the_last, in_front, IsKnown}
 use Rattle.ci_overflow.specs.declared.reading.Tried.{Tried}
 use Rattle.ci_overflow.specs.declared.known.KnownFull.{KnownFull}
-use Rattle.ci_overflow.proofs.Finds.{same_or}
 use Rattle.ci_overflow.proofs.Joins.{base-before, dependents-before}
 use Rattle.ci_overflow.proofs.Tries.{keeps-link, keeps-owner, head-owner, chain-next, left-itself, numbers-found, tried-some}
+use Rattle.plain_laws.proofs.Numbers.{same_or_other}
 
 -- ---- runs
 
@@ -161,7 +161,7 @@ keeps-same old new e = record {
 
 pub keeps-taken : (old new : List (List ℕ)) (ci n at other : ℕ) → TakesAt old new ci n at
     → KeepsFull (bytes_at old other) (bytes_at new other)
-keeps-taken old new ci n at other t = elim (same_or other ci) as
+keeps-taken old new ci n at other t = elim (same_or_other other ci) as
     (λ _. KeepsFull (bytes_at old other) (bytes_at new other)) [
       | inl e ↦
           (let P : ℕ → Type 0 = λ c. KeepsFull (bytes_at old c) (bytes_at new c) in
@@ -261,7 +261,7 @@ joined shape old middle new uow n m ci at bytes known u b l e s j o k =
 pub known-next : (shape : Shape) (old new : List (List ℕ)) (uow n m : ℕ) (room : ℕ × ℕ) (known : KnownFull)
     → uow < shape.uows → 0 < shape.base → JoinsNext shape uow old new m room → IsKnown shape old uow n known
     → IsKnown shape new uow n known
-known-next shape old new uow n m room known u b j k = elim (same_or (first_free old) 0) as
+known-next shape old new uow n m room known u b j k = elim (same_or_other (first_free old) 0) as
     (λ _. IsKnown shape new uow n known) [
       | inl z ↦
           (let x = j.from_end z in
@@ -280,7 +280,7 @@ known-next shape old new uow n m room known u b j k = elim (same_or (first_free 
 
 own_next : (shape : Shape) (old new : List (List ℕ)) (uow m : ℕ) (room : ℕ × ℕ) → JoinsNext shape uow old new m room
     → room.0 < length new → IsOwned shape new (uow + 1) room.0
-own_next shape old new uow m room j below = elim (same_or (first_free old) 0) as
+own_next shape old new uow m room j below = elim (same_or_other (first_free old) 0) as
     (λ _. IsOwned shape new (uow + 1) room.0) [
       | inl z ↦ record {
         from = (j.from_end z).from;
@@ -306,11 +306,6 @@ pub own-listed : (shape : Shape) (area : List (List ℕ)) (anchor uow : ℕ) (ro
 own-listed shape area anchor uow None e o = tt
 own-listed shape area anchor uow (Some room) e o = an_independent (subst (λ u. IsOwned shape area (u + 1) room.0) e o)
 
-pub if_ok-both : {A E : Type 0} (r : Result A E) (P Q R : A → Type 0) → ((a : A) → P a → Q a → R a) → IfOk r P → IfOk r Q
-    → IfOk r R
-if_ok-both (Ok a) P Q R f p q = f a p q
-if_ok-both (Err e) P Q R f p q = tt
-
 -- ---- by length
 
 pub other_length : (n m : ℕ) → (m ≡ n → ⊥) → is_at (nat_cmp n) m ≡ false
@@ -335,7 +330,7 @@ pub known-put : (shape : Shape) (old new : List (List ℕ)) (uow : ℕ) (before 
     → ((m : ℕ) (k : KnownFull) → before m ≡ Some k → IsKnown shape old uow m k) → IsKnown shape new uow n known
     → ((m : ℕ) (k : KnownFull) → IsKnown shape old uow m k → IsKnown shape new uow m k)
     → (m : ℕ) (k : KnownFull) → after m ≡ Some k → IsKnown shape new uow m k
-known-put shape old new uow before after n known here others was now stays m k e = elim (same_or m n) as
+known-put shape old new uow before after n known here others was now stays m k e = elim (same_or_other m n) as
     (λ _. IsKnown shape new uow m k) [
       | inl x ↦
           (let same : k ≡ known = same_known known k (sym here ∙ ap after (sym x) ∙ e) in
@@ -348,7 +343,7 @@ pub known-out : (shape : Shape) (area : List (List ℕ)) (uow : ℕ) (before aft
     → after n ≡ None → ((m : ℕ) → (m ≡ n → ⊥) → after m ≡ before m)
     → ((m : ℕ) (k : KnownFull) → before m ≡ Some k → IsKnown shape area uow m k)
     → (m : ℕ) (k : KnownFull) → after m ≡ Some k → IsKnown shape area uow m k
-known-out shape area uow before after n gone others was m k e = elim (same_or m n) as
+known-out shape area uow before after n gone others was m k e = elim (same_or_other m n) as
     (λ _. IsKnown shape area uow m k) [
       | inl x ↦ absurd (none_some k (sym gone ∙ ap after (sym x) ∙ e))
       | inr x ↦ was m k (sym (others m x) ∙ e)

@@ -9,9 +9,9 @@ use Rattle.ci_overflow.specs.Rooms.{ChangesLink}
 use Rattle.ci_overflow.specs.inside.Moves.{Moves}
 use Rattle.ci_overflow.proofs.Tries.{keeps-link, keeps-owner}
 use Rattle.ci_overflow.proofs.Joins.{base-before, kind-behind, counted-put, first_free-put, link-known, owner-known, kind-known}
-use Rattle.ci_overflow.proofs.Finds.{same_or}
 use Rattle.ci_overflow.proofs.Orders.{chain-keeps, list-stays, list-joined, list-left, bases-apart}
 use Rattle.ci_overflow.proofs.FaultLemmas.{next-held, keeps-kind}
+use Rattle.plain_laws.proofs.Numbers.{same_or_other}
 
 -- a list without the interval that one of its intervals leads to
 record IsRemoved (new : List (List ℕ)) (first ci : ℕ) (list rest : List ℕ) : Type 0 where
@@ -64,7 +64,7 @@ module _ (old new : List (List ℕ)) (before ci : ℕ) (z : ci ≢ 0) (apart : b
       → ((k : ℕ) → Holds list k → k ≢ before → k ≢ ci → link_of (bytes_at new k) ≡ link_of (bytes_at old k))
       → (left : List ℕ) × IsRemoved new first ci list left
   removed first [] c o h k = absurd h
-  removed first (x ∷ rest) c o h k = elim (same_or before x) as
+  removed first (x ∷ rest) c o h k = elim (same_or_other before x) as
       (λ _. (left : List ℕ) × IsRemoved new first ci (x ∷ rest) left) [
         | inl e ↦ (let P : ℕ → Type 0 = λ d. IsChain old first (d ∷ rest) in
             let Q : ℕ → Type 0 = λ d. IsOnce (d ∷ rest) in
@@ -142,7 +142,7 @@ module _ (shape : Shape) (old new : List (List ℕ)) (ci : ℕ) (interval : List
   owner_now = owner-known (bytes_at new ci) _ v.head
 
   owner_same : (k : ℕ) → first_independent shape ≤ k → k ≢ ci → owner_of (bytes_at new k) ≡ owner_of (bytes_at old k)
-  owner_same k l n = elim (same_or k v.before) as (λ _. owner_of (bytes_at new k) ≡ owner_of (bytes_at old k)) [
+  owner_same k l n = elim (same_or_other k v.before) as (λ _. owner_of (bytes_at new k) ≡ owner_of (bytes_at old k)) [
     | inl e ↦ (let P : ℕ → Type 0 = λ d. owner_of (bytes_at new d) ≡ owner_of (bytes_at old d) in
         subst P (sym e) (same-owner (bytes_at old v.before) (bytes_at new v.before) (link_of interval) v.link))
     | inr m ↦ ap owner_of (v.others k (λ e. omega (arith, l, e)) m n)
@@ -258,14 +258,14 @@ module _ (shape : Shape) (old new : List (List ℕ)) (ci : ℕ) (interval : List
   placed : (k : ℕ) → k < length new → IsInPlace shape new k
   placed k l =
       let p : IsInPlace shape old k = o.in_place k (omega (arith, l, v.same_number)) in
-      elim (same_or k ci) as (λ _. IsInPlace shape new k) [
+      elim (same_or_other k ci) as (λ _. IsInPlace shape new k) [
         | inl e ↦ (let P : ℕ → Type 0 = λ d. IsInPlace shape new d in
             subst P (sym e) (record {
               is_interval = record { elements = _; tiles = v.is_empty };
               is_kind =
                   kind-known (bytes_at new ci) _ v.head ∙ sym (kind-behind shape ci v.from);
             }))
-        | inr n ↦ elim (same_or k 0) as (λ _. IsInPlace shape new k) [
+        | inr n ↦ elim (same_or_other k 0) as (λ _. IsInPlace shape new k) [
           | inl e ↦ (let q : IsInPlace shape old 0 = rw e at p in
               let P : ℕ → Type 0 = λ d. IsInPlace shape new d in
               subst P (sym e) (record {
@@ -273,7 +273,7 @@ module _ (shape : Shape) (old new : List (List ℕ)) (ci : ℕ) (interval : List
                 is_kind =
                     sym (keeps-kind (bytes_at old 0) (bytes_at new 0) v.ends.head) ∙ q.is_kind;
               }))
-          | inr m ↦ elim (same_or k v.before) as (λ _. IsInPlace shape new k) [
+          | inr m ↦ elim (same_or_other k v.before) as (λ _. IsInPlace shape new k) [
             | inl e ↦ (let q : IsInPlace shape old v.before = o.in_place v.before before_below in
                 let P : ℕ → Type 0 = λ d. IsInPlace shape new d in
                 subst P (sym e) (record {
@@ -296,7 +296,7 @@ module _ (shape : Shape) (old new : List (List ℕ)) (ci : ℕ) (interval : List
         (sym (counted-put new (bytes_at new 0) (bytes_at old 0) (counted old) ci refl v.ends));
     in_place = placed;
     listed = record {
-      of_uow = λ u l. elim (same_or u v.uow) as (λ _. HasList shape new (u + 1)
+      of_uow = λ u l. elim (same_or_other u v.uow) as (λ _. HasList shape new (u + 1)
           (link_of (bytes_at new (first_base shape u)))) [
             | inl e ↦
                 (let P : ℕ → Type 0 = λ d. HasList shape new (d + 1) (link_of (bytes_at new (first_base shape d))) in
@@ -304,11 +304,11 @@ module _ (shape : Shape) (old new : List (List ℕ)) (ci : ℕ) (interval : List
             | inr n ↦ list_other u l n
           ];
       of_free = list_free;
-      owners = λ k l m. elim (same_or k ci) as (λ _. owner_of (bytes_at new k) ≤ shape.uows) [
+      owners = λ k l m. elim (same_or_other k ci) as (λ _. owner_of (bytes_at new k) ≤ shape.uows) [
         | inl e ↦ omega (arith, ap (λ d. owner_of (bytes_at new d)) e, owner_now)
         | inr n ↦ omega (arith, owner_same k l n, o.listed.owners k l (omega (arith, m, v.same_number)))
       ];
-      empty = λ k w. elim (same_or k ci) as (λ _. IsEmpty (bytes_at new k)) [
+      empty = λ k w. elim (same_or_other k ci) as (λ _. IsEmpty (bytes_at new k)) [
         | inl e ↦ (let P : ℕ → Type 0 = λ d. IsEmpty (bytes_at new d) in subst P (sym e) v.is_empty)
         | inr n ↦ (let x : IsOwned shape old 0 k = stood 0 k n w in
             let zero : 0 ≢ v.uow + 1 = λ e. omega (arith, e) in

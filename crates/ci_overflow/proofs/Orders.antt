@@ -11,7 +11,8 @@ use Rattle.ci_overflow.specs.Rooms.{places, AreTried, IsInUse, TakesAt, ChangesL
 use Rattle.ci_overflow.specs.inside.Rooms.{JoinsNext}
 use Rattle.ci_overflow.proofs.Tries.{keeps-link, keeps-owner}
 use Rattle.ci_overflow.proofs.Joins.{base-before, kind-behind, counted-put, first_free-put, link-known, owner-known, kind-known}
-use Rattle.ci_overflow.proofs.Finds.{same_or, control-first, some_given}
+use Rattle.ci_overflow.proofs.Finds.{control-first, some_given}
+use Rattle.plain_laws.proofs.Numbers.{same_or_other}
 
 -- a chain depends on the links of its intervals alone
 pub chain-keeps : (old new : List (List ℕ)) (list : List ℕ) (first : ℕ)
@@ -53,7 +54,7 @@ list-joined shape old new owner first ci list z n o e f g k l =
         | inr x ↦
             f other (l.owned other x)
       ];
-      each = λ other h. elim (same_or ci other) as (λ _. (ci ≡ other) ⊎ Holds list other)
+      each = λ other h. elim (same_or_other ci other) as (λ _. (ci ≡ other) ⊎ Holds list other)
           [ inl x ↦ inl x | inr x ↦ inr (l.each other (g other (λ y. x (sym y)) h)) ];
     }
 
@@ -87,11 +88,11 @@ list-left shape old new owner first (x ∷ rest) z n f g k l =
     }
 
 -- control's numbers follow its bytes
-counted-same : (old new : List (List ℕ)) → bytes_at new 0 ≡ bytes_at old 0 → counted new ≡ counted old
+pub counted-same : (old new : List (List ℕ)) → bytes_at new 0 ≡ bytes_at old 0 → counted new ≡ counted old
 unfolding counted
 counted-same old new e = ap (λ (xs : List ℕ). slice_index (ends_of xs) 2) e
 
-first_free-same : (old new : List (List ℕ)) → bytes_at new 0 ≡ bytes_at old 0 → first_free new ≡ first_free old
+pub first_free-same : (old new : List (List ℕ)) → bytes_at new 0 ≡ bytes_at old 0 → first_free new ≡ first_free old
 unfolding first_free
 first_free-same old new e = ap (λ (xs : List ℕ). slice_index (ends_of xs) 3) e
 
@@ -127,7 +128,7 @@ order-changed shape old new ci k0 o t =
     let z : 0 ≢ ci = λ e. t.is_in_use.is_no_control (ap (λ k. kind_of (bytes_at old k)) (sym e) ∙ k0) in
     let ez : bytes_at new 0 ≡ bytes_at old 0 = t.others 0 z in
     let keeps : (k : ℕ) → Keeps (bytes_at old k) (bytes_at new k) 0 32 =
-    λ k. elim (same_or k ci) as (λ _. Keeps (bytes_at old k) (bytes_at new k) 0 32) [
+    λ k. elim (same_or_other k ci) as (λ _. Keeps (bytes_at old k) (bytes_at new k) 0 32) [
       | inl e ↦ (let P : ℕ → Type 0 = λ d. Keeps (bytes_at old d) (bytes_at new d) 0 32 in subst P (sym e) t.head)
       | inr e ↦ λ i x y. ap (λ (xs : List ℕ). slice_index xs i) (t.others k e)
     ] in
@@ -159,7 +160,7 @@ order-changed shape old new ci k0 o t =
       in_place = λ k l.
           let p : IsInPlace shape old k = o.in_place k (omega (arith, l, t.same_number)) in
           record {
-            is_interval = elim (same_or k ci) as (λ _. IsInterval (bytes_at new k)) [
+            is_interval = elim (same_or_other k ci) as (λ _. IsInterval (bytes_at new k)) [
               | inl e ↦ (let P : ℕ → Type 0 = λ d. IsInterval (bytes_at new d) in subst P (sym e) t.is_interval)
               | inr e ↦ rw (← t.others k e) at p.is_interval
             ];
@@ -252,7 +253,7 @@ order-joined shape uow old new ci o j =
     let mine : IsOwned shape new (uow + 1) ci = record { from = j.from; below = j.below; owned = j.owner } in
     record {
       whole = j.whole;
-      in_place = λ k l. elim (same_or k ci) as (λ _. IsInPlace shape new k) [
+      in_place = λ k l. elim (same_or_other k ci) as (λ _. IsInPlace shape new k) [
         | inl e ↦ (let P : ℕ → Type 0 = λ d. IsInPlace shape new d in
             subst P (sym e) (record {
               is_interval = j.is_interval;
@@ -260,11 +261,11 @@ order-joined shape uow old new ci o j =
                   j.kind ∙ sym (kind-behind shape ci j.from);
             }))
         | inr n ↦ (let p : IsInPlace shape old k = o.in_place k (j.only k l n) in
-            elim (same_or k 0) as (λ _. IsInPlace shape new k) [
+            elim (same_or_other k 0) as (λ _. IsInPlace shape new k) [
               | inl e ↦ (let q : IsInPlace shape old 0 = (rw e at p) in
                   let P : ℕ → Type 0 = λ d. IsInPlace shape new d in
                   subst P (sym e) (record { is_interval = j.zero_interval; is_kind = j.zero_kind ∙ q.is_kind }))
-              | inr m ↦ elim (same_or k (first_base shape uow)) as (λ _. IsInPlace shape new k) [
+              | inr m ↦ elim (same_or_other k (first_base shape uow)) as (λ _. IsInPlace shape new k) [
                 | inl e ↦ record {
                   is_interval = (let P : ℕ → Type 0 = λ d. IsInterval (bytes_at new d) in
                       subst P (sym e) j.first_interval);
@@ -280,7 +281,7 @@ order-joined shape uow old new ci o j =
             ])
       ];
       listed = record {
-        of_uow = λ v l. elim (same_or v uow) as (λ _. HasList shape new (v + 1)
+        of_uow = λ v l. elim (same_or_other v uow) as (λ _. HasList shape new (v + 1)
             (link_of (bytes_at new (first_base shape v)))) [
               | inl e ↦
                   (let h : HasList shape old (uow + 1) (link_of (bytes_at old (first_base shape uow))) =
@@ -313,7 +314,7 @@ order-joined shape uow old new ci o j =
                   rw (← e) at x)
             ];
         of_free = j.free;
-        owners = λ k l m. elim (same_or k ci) as (λ _. owner_of (bytes_at new k) ≤ shape.uows) [
+        owners = λ k l m. elim (same_or_other k ci) as (λ _. owner_of (bytes_at new k) ≤ shape.uows) [
           | inl e ↦ (let P : ℕ → Type 0 = λ d. owner_of (bytes_at new d) ≤ shape.uows in
               subst P (sym e) (omega (arith, j.owner, j.is_uow)))
           | inr n ↦ (let x : owner_of (bytes_at old k) ≤ shape.uows = o.listed.owners k l (j.only k m n) in
@@ -462,7 +463,7 @@ order-new shape uow n room old new u b o j =
 
 pub order-next : (shape : Shape) (uow n : ℕ) (room : ℕ × ℕ) (old new : List (List ℕ)) → uow < shape.uows
     → 0 < shape.base → IsInOrder shape old → JoinsNext shape uow old new n room → IsInOrder shape new
-order-next shape uow n room old new u b o j = elim (same_or (first_free old) 0) as (λ _. IsInOrder shape new) [
+order-next shape uow n room old new u b o j = elim (same_or_other (first_free old) 0) as (λ _. IsInOrder shape new) [
   | inl z ↦ order-new shape uow n room old new u b o (j.from_end z)
   | inr z ↦ order-free shape uow n room old new u b o (j.from_free z)
 ]

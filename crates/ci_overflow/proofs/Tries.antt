@@ -1,5 +1,5 @@
 -- Intervals that are tried one after the other.
-use Rattle.std.proofs.Common.{◌≡◌, ◌≢◌, ℕ, zero, suc, ◌+◌, ◌-◌, ◌<◌, ◌≤◌, inl, inr, List, [], ◌∷◌, ◌++◌, length, Option, Some, None, IfSome, IfNone, Result, Ok, Err, IfOk, refl, sym, ap, ◌∙◌, subst, arith}
+use Rattle.std.proofs.Common.{◌≡◌, ◌≢◌, ℕ, zero, suc, ◌+◌, ◌-◌, ◌<◌, ◌≤◌, inl, inr, List, [], ◌∷◌, ◌++◌, length, Option, Some, None, IfSome, IfNone, refl, sym, ap, ◌∙◌, subst, arith}
 use Rattle.std.specs.List.{All}
 use Rattle.std.proofs.lemmas.List.Elements.{All-nil, All-cons, All-head, All-tail, All-append}
 use Rattle.ci_space.specs.Element.{Element, Free, Used, free_size, size_for, rest_free}
@@ -242,11 +242,6 @@ option_none {X} o Q e h = let P : Option X → Type 0 = λ o. IfNone o Q in subs
 pub gives-full : (old new : List (List ℕ)) (ci n : ℕ) (tried : Tried) → IsTried old new ci n tried → tried.at ≡ None
     → IsFull (bytes_at old ci) n × (new ≡ old)
 gives-full old new ci n tried t e = option_none tried.at (IsFull (bytes_at old ci) n × (new ≡ old)) e t.none
-
--- the intervals of an anchor: the base interval, then the dependent overflow, then the chain
-pub if_ok-map : {A E : Type 0} (r : Result A E) (P Q : A → Type 0) → ((a : A) → P a → Q a) → IfOk r P → IfOk r Q
-if_ok-map (Ok a) P Q f p = f a p
-if_ok-map (Err e) P Q f p = tt
 
 behind-base : (old new : List (List ℕ)) (base n : ℕ) (xs : List ℕ) (room : Option (ℕ × ℕ))
     → IsFull (bytes_at old base) n → AreTried old new xs n room → AreTried old new (base ∷ xs) n room

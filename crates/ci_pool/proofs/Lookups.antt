@@ -8,6 +8,7 @@ use Rattle.ci_pool.specs.Cells.{comes_before, is_of, cell_at, Listed}
 use Rattle.ci_pool.specs.Changes.{is_staged, any_staged, AllCells, Follows, IsAscending}
 use Rattle.ci_pool.specs.inside.Changes.{is_only_staged, without, with_cell, published, all_published, all_unstaged, unstaged_by, after_write, after_write_by, staged_cell, unlisted, unlisted_one}
 use Rattle.ci_pool.proofs.Lists.{all_map, none_behind, none_this, of_same, all_of_unstaged}
+use Rattle.plain_laws.proofs.Numbers.{both_numbers}
 
 -- the cell of an interval is of it
 pub of_found : (set ci : ℕ) (l : List Cell) (c : Cell) → cell_at set ci l ≡ Some c → is_of set ci c ≡ true
@@ -21,9 +22,6 @@ of_found set ci (x ∷ l) c is = elim (cases_Bool (is_of set ci x)) [
 -- two ways to say it
 pub key_sym : (s k set ci : ℕ) → (s == set && k == ci) ≡ (set == s && ci == k)
 key_sym s k set ci = grind (arith, nat_tests)
-
-pub key_same : (s k set ci : ℕ) → (s == set && k == ci) ≡ true → (s ≡ set) × (k ≡ ci)
-key_same s k set ci is = (grind (arith, nat_tests), grind (arith, nat_tests))
 
 -- once what is staged is published,
 pub at_published : (place s k : ℕ) (l : List Cell) → cell_at s k (all_published place l) ≡ option_map (published place)
@@ -59,7 +57,7 @@ at_without set ci s k [] a = elim (cases_Bool (s == set && k == ci)) [ inl is �
 at_without set ci s k (c ∷ l) a = elim (cases_Bool (is_of set ci c)) [
   | inl here ↦ elim (cases_Bool (s == set && k == ci)) [
     | inl is ↦
-        let keys = key_same s k set ci is in
+        let keys = both_numbers s k set ci is in
         let same = of_same set ci c here in
         let behind : AllCells (λ b. IsTrue (comes_before s k b.set b.ci)) l = all_map (Follows c)
         (λ b. IsTrue (comes_before s k b.set b.ci)) l (λ b f. cc) a.0 in
@@ -124,7 +122,7 @@ pub at_written_none : (set ci s k : ℕ) (l : List Cell) → IsAscending l → c
     → cell_at s k (without set ci l) ≡ (if s == set && k == ci then after_write_by (cell_at s k l) else cell_at s k l)
 at_written_none set ci s k l a none = at_without set ci s k l a ∙ elim (cases_Bool (s == set && k == ci)) [
   | inl is ↦
-      let keys = key_same s k set ci is in
+      let keys = both_numbers s k set ci is in
       let nothing : cell_at s k l ≡ None = ap (λ n. cell_at n k l) keys.0 ∙ ap (λ n. cell_at set n l) keys.1 ∙ none in
       rw is (sym (ap after_write_by nothing))
   | inr other ↦ rw other refl
@@ -144,7 +142,7 @@ at_written set ci s k l c a is = elim (cases_Bool (is_staged c)) [
       ∙ ap (λ n. if s == set && k == n then Some new else cell_at s k (without set ci l)) key.1
       ∙ elim (cases_Bool (s == set && k == ci)) [
         | inl here ↦
-            let keys = key_same s k set ci here in
+            let keys = both_numbers s k set ci here in
             let this : cell_at s k l ≡ Some c = ap (λ n. cell_at n k l) keys.0 ∙ ap (λ n. cell_at set n l) keys.1
             ∙ is in
             let made : after_write_by (Some c) ≡ Some (after_write c) = rw staged refl in
@@ -153,7 +151,7 @@ at_written set ci s k l c a is = elim (cases_Bool (is_staged c)) [
       ])
   | inr bare ↦ rw bare (at_without set ci s k l a ∙ elim (cases_Bool (s == set && k == ci)) [
     | inl here ↦
-        let keys = key_same s k set ci here in
+        let keys = both_numbers s k set ci here in
         let this : cell_at s k l ≡ Some c = ap (λ n. cell_at n k l) keys.0 ∙ ap (λ n. cell_at set n l) keys.1 ∙ is in
         let made : after_write_by (Some c) ≡ None = rw bare refl in
         rw here (sym (ap after_write_by this ∙ made))

@@ -12,8 +12,8 @@ use Rattle.ci_pool.specs.Changes.{is_staged}
 use Rattle.ci_pool.specs.inside.Changes.{is_only_staged, published, unstaged_by, after_write_by, staged_cell}
 use Rattle.ci_pool.specs.Held.{Held, waiting_of, staged_of, bytes_of, pending_at, interval_in, IsClean, HasSize, brought_first, IsPool, clean_at, held_at, first_of}
 use Rattle.ci_pool.proofs.CleanLists.{entry_is, on_list}
-use Rattle.ci_pool.proofs.Lookups.{key_same}
 use Rattle.ci_pool.proofs.Ranges.{other_written, other_broken}
+use Rattle.plain_laws.proofs.Numbers.{both_numbers}
 
 -- what is found on the list stands there
 pub listed : (set ci : ℕ) (es : Listed) (v : List ℕ) → lookup (is_key set ci) es ≡ Some v → Contains es ((set, ci), v)
@@ -178,10 +178,6 @@ pub by_if : {T E : Type 0} (r : Result T E) (Q R : T → Type 0) (B P : Type 0) 
 by_if (Ok x) Q R B P q s b f g = f x q s
 by_if (Err e) Q R B P q s b f g = g b
 
-pub if_ok : {T E : Type 0} (r : Result T E) (Q R : T → Type 0) → IfOk r Q → ((x : T) → Q x → R x) → IfOk r R
-if_ok (Ok x) Q R q f = f x q
-if_ok (Err e) Q R q f = tt
-
 -- ---- bytes staged, and an interval written
 
 pub nothing_staged : (o : Option (List ℕ)) → not (is_some o) ≡ true → o ≡ None
@@ -203,7 +199,7 @@ module _ (set ci s k : ℕ) (bytes : List ℕ) (cells new : List Cell) where
       → waiting_of (cell_at s k new) ≡ waiting_of (cell_at s k cells)
   staged_waits at = ap waiting_of at ∙ elim (cases_Bool (s == set && k == ci)) [
     | inl here ↦
-        let keys = key_same s k set ci here in
+        let keys = both_numbers s k set ci here in
         rw here (same_waiting set ci bytes (cell_at set ci cells)
         ∙ sym (ap (λ n. waiting_of (cell_at n k cells)) keys.0 ∙ ap (λ n. waiting_of (cell_at set n cells)) keys.1))
     | inr other ↦ rw other refl
@@ -217,7 +213,7 @@ module _ (set ci s k : ℕ) (bytes : List ℕ) (cells new : List Cell) where
       → ((s ≡ set) × (k ≡ ci) × (b ≡ bytes)) ⊎ (staged_of (cell_at s k cells) ≡ Some b)
   staged_bytes b at is = elim (cases_Bool (s == set && k == ci)) [
     | inl here ↦
-        let keys = key_same s k set ci here in
+        let keys = both_numbers s k set ci here in
         let now : cell_at s k new ≡ Some (staged_cell set ci bytes (cell_at set ci cells)) = rw here at at in
         let same : Some bytes ≡ Some b = sym (new_staged set ci bytes (cell_at set ci cells)) ∙ sym (ap staged_of now)
         ∙ is in

@@ -11,6 +11,7 @@
 ghost use Rattle.std.specs.Prelude.{◌≡◌, ◌≢◌, ◌+◌, ◌*◌, ◌<◌, ◌≤◌, ◌^◌, ℕ, ◌==◌, ◌&&◌, not, filter, is_some, IsSome, if◌then◌else◌, [], List, length, IfOk, OnOk, OnErr, IfSome, IfNone, Some, None, Ok, Err, option_map, option_copied};
 ghost use Rattle.fp_site.specs.Disk.{Tears, Elapses, Leaves, Stays, Broken, written};
 ghost use Rattle.fp_site.specs.Site.{ReadsNothing};
+ghost use Rattle.fp_lists.specs.Continued.{IsContinued};
 ghost use Rattle.fp_lists.specs.Faults.{Counts};
 ghost use Rattle.ci_pool.specs.Cells.{renewed_by, pending_number};
 ghost use Rattle.ci_pool.specs.declared.cell.Waiting.{Waiting as Pending};
@@ -112,9 +113,7 @@ impl Pool {
         ensures stays { T.told site.old → Stays (T.disk site.old) (T.disk site.new) }
         ensures reads { ReadsUpTo set size (T.tells_reads site.old) (T.tells_reads site.new) (T.bytes_read site.old)
             (T.bytes_read site.new) }
-        ensures told { T.told site.old → T.told site.new }
-        ensures holds { T.holds site.new ≡ T.holds site.old }
-        ensures keeps { (first : T) → T.keeps first site.old → T.keeps first site.new }
+        ensures site { IsContinued T.told T.faults T.holds T.keeps site.old site.new }
     {
         if let Some(bytes) = self.cells.waiting_bytes(set, ci) {
             return Ok(bytes.copy()?);
@@ -248,9 +247,7 @@ impl Pool {
         ensures leaves { T.told site.old → Leaves set (T.disk site.old) (T.disk site.new) }
         ensures reads { ReadsNothing (T.tells_reads site.old) (T.tells_reads site.new) (T.bytes_read site.old)
             (T.bytes_read site.new) }
-        ensures told { T.told site.old → T.told site.new }
-        ensures holds { T.holds site.new ≡ T.holds site.old }
-        ensures keeps { (first : T) → T.keeps first site.old → T.keeps first site.new }
+        ensures site { IsContinued T.told T.faults T.holds T.keeps site.old site.new }
 
         // A crash at any moment of the call leaves of this data set an earlier image with the interval's range torn.
         ensures crash { T.told site.old → (w : Pending) → pending_at self.old set ci ≡ Some w

@@ -2,6 +2,7 @@
 
 ghost use Rattle.std.specs.Prelude.{◌≡◌, ◌+◌, ℕ, length, IfOk, OnOk};
 ghost use Rattle.fp_site.specs.Disk.{Stays, read_range};
+ghost use Rattle.fp_lists.specs.Continued.{IsContinued};
 ghost use Rattle.ci_pool.specs.Held.{RoseAt, ReadsUpTo};
 ghost use Rattle.ci_pool.specs.declared.fault.PoolFault.TheVariants as fault;
 
@@ -27,9 +28,7 @@ pub(crate) fn read<T: Site>(
         (T.bytes_read site.new) }
     ensures asked { T.tells_reads site.new set →
         OnOk result (T.bytes_read site.new set ≡ T.bytes_read site.old set + size) }
-    ensures told { T.told site.old → T.told site.new }
-    ensures holds { T.holds site.new ≡ T.holds site.old }
-    ensures keeps { (first : T) → T.keeps first site.old → T.keeps first site.new }
+    ensures site { IsContinued T.told T.faults T.holds T.keeps site.old site.new }
 {
     let mut bytes = vec![in alloc; 0u8; usize::from(size)]?;
     match site.read_at(set, at, &mut bytes) {

@@ -21,7 +21,3 @@ module _ {I : Type 0} (told : I → Type 0) (size faults : I → ℕ) (keeps : I
 pub rose-first : (a b c : ℕ) → a ≤ b → b ≤ c → Rose a b → Rose a c
 rose-first a b c p q (inl r) = inl (omega arith)
 rose-first a b c p q (inr r) = elim (cases_lt a c) as (λ _. Rose a c) [ inl l ↦ inl l | inr l ↦ inr (omega arith) ]
-
-pub rose-last : (a b c : ℕ) → a ≤ b → Rose b c → Rose a c
-rose-last a b c p (inl r) = inl (omega arith)
-rose-last a b c p (inr r) = inr r

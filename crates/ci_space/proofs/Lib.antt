@@ -9,3 +9,4 @@ pub mod Contents
 pub mod Empties
 pub mod Standing
 pub mod Going
+pub mod GoingLemmas

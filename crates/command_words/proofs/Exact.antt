@@ -17,9 +17,6 @@ pub record IsExact (words : List (List ℕ)) : Type 0 where
       × (command_of words ≡ command_named name)
   pub refused : (fault_of program_app words ≡ [] → ⊥) → command_of words ≡ None
 
-pub same_inside : (a b : List ℕ) → Some a ≡ Some b → a ≡ b
-same_inside a b e = cc
-
 -- the bytes are those of the name, or they are not
 name_cases : (name c : List ℕ) → (name ≡ c) ⊎ (bytes_eq name c ≡ false)
 name_cases name c =

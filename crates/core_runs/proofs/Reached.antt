@@ -5,31 +5,21 @@ use Rattle.drain_laws.specs.Live.{IsReached}
 use Rattle.drain_laws.specs.ProductGauge.{gauge_of}
 use Rattle.drain_laws.proofs.InOrder.{rest_ordered}
 use Rattle.drain_laws.proofs.Live.{rest_live}
-use Rattle.drain_laws.proofs.OfSystem.{turn_of}
-use Rattle.drain_laws.proofs.Rounds.{relined}
 use Rattle.fp_core.specs.Draining.{IsReachedBy}
 use Rattle.fp_core.specs.Relation.{StandsFor, rules_in}
-use Rattle.fp_core.specs.Turning.{Turned}
-use Rattle.fp_core.specs.declared.did.Did.{Did}
 use Rattle.fp_core.specs.declared.engine.Engine.{Engine}
 use Rattle.fp_model.specs.History.{History, beginning}
 use Rattle.fp_model.specs.Machine.{Machine, at_rest}
 use Rattle.fp_model.specs.Product.{rules_of}
 use Rattle.fp_model.specs.Rules.{Rules}
 use Rattle.fp_model.specs.State.{start}
-use Rattle.fp_model.specs.Turns.{Turn}
 use Rattle.fp_model.specs.declared.definitions.Defs.{Defs}
-use Rattle.fp_model.specs.declared.events.Event.{Event}
 use Rattle.fp_model.specs.declared.scripts.Script.{Script}
 
 -- what is so of a good answer makes another fact so
 pub on_ok_by : {A E : Type 0} (Q : A → Type 0) (P : Type 0) (r : Result A E) → ((a : A) → Q a → P) → IfOk r Q → OnOk r P
 on_ok_by Q P (Ok a) f h = f a h
 on_ok_by Q P (Err e) f h = h
-
-pub if_ok_by : {A E : Type 0} (Q P : A → Type 0) (r : Result A E) → ((a : A) → Q a → P a) → IfOk r Q → IfOk r P
-if_ok_by Q P (Ok a) f h = f a h
-if_ok_by Q P (Err e) f h = h
 
 -- two facts of a good answer make a third
 pub if_ok_both : {A E : Type 0} (P Q R : A → Type 0) (r : Result A E) → ((a : A) → P a → Q a → R a) → IfOk r P
@@ -54,30 +44,5 @@ reached_at_rest defs scripts format engine same stands =
       record {
         stands = stands;
         reached = subst (λ (r : Rules). IsReached r (gauge_of engine.defs.now) m) (sym same) reached;
-      },
-    )
-
--- behind a turn
-pub reached_behind : (old new : Engine) (event : Event) (m : Machine) (lines : List (List ℕ)) (given : Did)
-    → rules_in new ≡ rules_in old
-    → new.defs.now ≡ old.defs.now
-    → IsReachedBy old m
-    → Turned event (record m { lines = lines }) new given
-    → (m2 : Machine) × IsReachedBy new m2
-reached_behind old new event m lines given same defs before turned =
-    let setup = before.stands.setup in
-    let here : Machine = record m { lines = lines } in
-    let after : Machine = turned.after in
-    let turn : Turn (rules_in old) here event turned.environment after =
-    subst (λ (r : Rules). Turn r here event turned.environment after) same turned.turn in
-    let reached : IsReached (rules_in old) (gauge_of old.defs.now) after =
-    turn_of old.defs.now old.scripts.now.scripts setup.defined setup.cheap here event turned.environment after
-    (relined (rules_in old) (gauge_of old.defs.now) m lines before.reached) turn in
-    let under : IsReached (rules_in new) (gauge_of old.defs.now) after =
-    subst (λ (r : Rules). IsReached r (gauge_of old.defs.now) after) (sym same) reached in (
-      after,
-      record {
-        stands = turned.stands;
-        reached = subst (λ (d : Defs). IsReached (rules_in new) (gauge_of d) after) (sym defs) under;
       },
     )

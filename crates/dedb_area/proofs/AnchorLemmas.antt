@@ -30,10 +30,8 @@ use Rattle.area_staging.specs.Staging.{AllAtHand, IsToldPool, KeepsStaging, stag
 use Rattle.dedb_area.specs.Standing.{AreasStand, Holding}
 use Rattle.dedb_area.proofs.Newest.{reads_newest}
 use Rattle.area_staging.proofs.Staged.{in_pool, newest_same}
-
-pub by_ok : {T E : Type 0} (r : Result T E) (P Q : T → Type 0) → IfOk r P → ((x : T) → P x → Q x) → IfOk r Q
-by_ok (Ok x) P Q p f = f x p
-by_ok (Err e) P Q p f = tt
+use Rattle.area_laws.proofs.FullLemmas.{at_set}
+use Rattle.plain_laws.proofs.Results.{if_ok_with}
 
 -- ---- which area
 
@@ -232,7 +230,7 @@ module _ (way : Way) (bytes : AreaBytes) (disk : Disk) (areas : Holding) (dedb a
       → IfOk r (HasAnchor place (intervals_of place b) (anchor - place.first_anchor)))
       → IfOk r (AreRootsOf areas.places (behind way.unsealed bytes) dedb anchor)
   roots_here r f =
-      by_ok r (HasAnchor place (intervals_of place newest) (anchor - place.first_anchor))
+      if_ok_with r (HasAnchor place (intervals_of place newest) (anchor - place.first_anchor))
       (AreRootsOf areas.places (behind way.unsealed bytes) dedb anchor) (f newest shown)
       (λ roots h. record { set = set; place = place; number = anchor - place.first_anchor; is = here; has = h })
 
@@ -272,13 +270,6 @@ begin_first place at e =
 
 -- ---- a look along the areas
 
-pub at_number : (places : List Place) (n : ℕ) (place : Place) → slice_get places n ≡ Some place
-    → place_at places (first_area_set + n) ≡ Some place
-at_number places n place is =
-    let from : nat_lt (first_area_set + n) first_area_set ≡ false = grind (arith, nat_tests) in
-    let n2 : first_area_set + n - first_area_set ≡ n = omega arith in
-    rw from (ap (slice_get places) n2 ∙ is)
-
 pub within_areas : (places : List Place) (set : ℕ) (place : Place) → place_at places set ≡ Some place
     → (first_area_set ≤ set) × (set - first_area_set < length places)
 within_areas places set place is = elim (cases_Bool (nat_lt set first_area_set)) [
@@ -300,7 +291,7 @@ pub next_area : (places : List Place) (dedb anchor n : ℕ) (place : Place) → 
     → (set : ℕ) → HasAnchorIn places dedb anchor set → first_area_set + (n + 1) ≤ set
 next_area places dedb anchor n place is none before set has = elim (cases_eq set (first_area_set + n)) [
   | inl e ↦
-      let there : place_at places set ≡ Some place = ap (place_at places) e ∙ at_number places n place is in
+      let there : place_at places set ≡ Some place = ap (place_at places) e ∙ at_set places n place is in
       let both : Some has.place ≡ Some place = sym has.is.is_place ∙ there in
       let same : has.place ≡ place = cc in
       let yes : has_anchor place dedb anchor ≡ true =
@@ -309,9 +300,3 @@ next_area places dedb anchor n place is none before set has = elim (cases_eq set
       cc
   | inr ne ↦ let le = before set has in omega (arith, le, ne)
 ]
-
--- what stands at a place of a list
-pub got : {X : Type 0} (xs : List X) (n : ℕ) (x : X) → n < length xs → x ≡ get_or xs n x → slice_get xs n ≡ Some x
-got [] n x lt e = absurd (omega (arith, lt))
-got {X} (y ∷ xs) zero x lt e = ap (λ (z : X). Some z) (sym e)
-got (y ∷ xs) (suc n) x lt e = got xs n x (omega (arith, lt)) e

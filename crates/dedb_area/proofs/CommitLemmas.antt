@@ -17,7 +17,6 @@ use Rattle.area_redo.specs.Redo.{redone_at}
 use Rattle.area_redo.proofs.Items.{redone_none}
 use Rattle.area_states.specs.declared.place.Place.{Place}
 use Rattle.area_states.specs.Changes.{HasRoom, IsTooFull, count_of, with_changes}
-use Rattle.area_states.proofs.Loops.{none_left, rest_at}
 use Rattle.area_states.specs.Places.{counted_by, has_anchor}
 use Rattle.area_states.specs.States.{AreaState, HasState}
 use Rattle.area_laws.proofs.FullLemmas.{changes_keep_ends}
@@ -28,6 +27,8 @@ use Rattle.dedb_area.specs.Anchors.{intervals_of}
 use Rattle.dedb_area.specs.Committing.{committed, has_change, has_insert, is_concerned}
 use Rattle.dedb_area.specs.inside.Committing.{HasRoomFor, IsChangedTo, MakesArea}
 use Rattle.dedb_area.proofs.AnchorLemmas.{first_bytes}
+use Rattle.plain_laws.proofs.Lists.{drop_whole}
+use Rattle.plain_laws.proofs.Places.{rest_at}
 
 module _ (place : Place) (set count : ℕ) (imaged : ℕ → Bool) (bytes : ℕ → List ℕ) (state : AreaState) (changed : Changes)
     (items : List Item) (counts : count ≡ counted_by (Some place) (bytes 0))
@@ -157,4 +158,4 @@ any_step p xs k x lt is = ap (list_any p) (rest_at xs k x lt is) ∙ any_cons p 
     ]
 
 pub any_end : {X : Type 0} (p : X → Bool) (xs : List X) (k : ℕ) → length xs ≤ k → list_any p (drop k xs) ≡ false
-any_end p xs k le = ap (list_any p) (none_left xs k le)
+any_end p xs k le = ap (list_any p) (drop_whole xs k le)

@@ -1,6 +1,6 @@
 -- The areas of good definitions are ones that calls on areas can work on.
-use Rattle.std.proofs.Common.{◌≡◌, inl, inr, ℕ, zero, suc, ◌+◌, ◌-◌, ◌*◌, ◌/◌, ◌<◌, ◌≤◌, Bool, true, false, List, [], ◌∷◌, ◌++◌, length, drop, refl, sym, subst, arith}
-use Rattle.std.specs.Prelude.{Contains, IsTrue, slice_index_or}
+use Rattle.std.proofs.Common.{◌≡◌, inl, inr, ℕ, zero, suc, ◌+◌, ◌-◌, ◌*◌, ◌/◌, ◌<◌, ◌≤◌, true, List, [], ◌∷◌, ◌++◌, length, drop, refl, sym, subst, arith}
+use Rattle.std.specs.Prelude.{IsTrue, slice_index_or}
 use Rattle.std.specs.List.{AllByRecursion}
 use Rattle.std.proofs.lemmas.Bool.{cases_Bool}
 use Rattle.std.proofs.lemmas.Nat.{le-div}
@@ -9,11 +9,12 @@ use Rattle.ci_space.specs.Interval.{is_size}
 use Rattle.fp_model.specs.declared.definitions.DedbDef.{DedbDef}
 use Rattle.fp_model.specs.declared.definitions.SegDef.{SegDef}
 use Rattle.fp_model.specs.State.{Area}
-use Rattle.fp_model.specs.WellFormed.{EachFits, HasCapacity, IsAreaDef, IsDedbDef, has_sequential, sequential_intervals}
+use Rattle.fp_model.specs.WellFormed.{EachFits, IsAreaDef, IsDedbDef, has_sequential, sequential_intervals}
 use Rattle.seq_dependents.specs.Slots.{HoldsCapacity, slots_each}
 use Rattle.area_states.specs.declared.place.Place.{Place}
 use Rattle.area_states.specs.Places.{ArePlaces, IsPlace, part_of, place_of}
 use Rattle.area_reading.proofs.Lengths.{first_length, sequential_first}
+use Rattle.area_laws.proofs.DefLemmas.{has_type}
 
 -- ---- the size
 
@@ -23,9 +24,6 @@ one_of_four n (suc zero) below e = subst (λ m. IsTrue (is_size m)) e refl
 one_of_four n (suc (suc zero)) below e = subst (λ m. IsTrue (is_size m)) e refl
 one_of_four n (suc (suc (suc zero))) below e = subst (λ m. IsTrue (is_size m)) e refl
 one_of_four n (suc (suc (suc (suc k)))) below e = absurd (omega (arith, below))
-
-sized : (n : ℕ) → Contains (512 ∷ 1024 ∷ 2048 ∷ 4096 ∷ []) n → IsTrue (is_size n)
-sized n c = one_of_four n c.0 c.1 c.2
 
 -- ---- the sequential part
 
@@ -52,10 +50,6 @@ slots_hold ci place capacity types (def ∷ defs) fits h = elim (cases_Bool def.
       rw other (slots_hold ci (place + 1) capacity types defs fits.1 rest)
 ]
 
-has_type : (b : Bool) (capacity : ℕ) → HasCapacity b capacity → 0 < capacity → b ≡ true
-has_type true capacity has some = refl
-has_type false capacity has some = absurd (omega (arith, has, some))
-
 holds_capacity : (def : DedbDef) (area : Area) → IsDedbDef def → IsAreaDef def.segments area.def
     → 0 < area.def.capacity → HoldsCapacity (part_of (place_of def area))
 unfolding slots_each
@@ -70,21 +64,6 @@ holds_capacity def area is_def is_area some =
     }
 
 -- ---- an area
-
-pub defined_place : (def : DedbDef) (area : Area) → IsDedbDef def → IsAreaDef def.segments area.def
-    → IsPlace (place_of def area)
-defined_place def area is_def is_area = record {
-  size = sized def.ci is_def.size;
-  base = let b = is_area.base.0 in omega (arith, b);
-  types = record {
-    some = let n = is_def.types.0 in omega (arith, n);
-    few = is_def.types.1;
-    places = is_def.places;
-    fits = is_def.fits;
-  };
-  sequential = λ some. has_type (has_sequential def.segments) area.def.capacity is_area.capacity some;
-  slots = λ some. holds_capacity def area is_def is_area some;
-}
 
 pub places_more : (places : List Place) (place : Place) → ArePlaces places → IsPlace place
     → ArePlaces (places ++ place ∷ [])

@@ -12,10 +12,10 @@ use Rattle.fp_model.specs.declared.log.Item.{Item}
 use Rattle.fp_model.specs.declared.log.Item.TheVariants.{Segment, Image, Range}
 use Rattle.area_states.specs.declared.place.Place.{Place}
 use Rattle.area_states.specs.Places.{place_at, place_of, places_from, places_of}
-use Rattle.area_staging.proofs.Orders.{all_then}
 use Rattle.dedb_area.specs.Applying.{IsFitImage, IsFitInterval}
 use Rattle.dedb_area.specs.Committing.{IsFitItem}
 use Rattle.dedb_area.proofs.AnchorLemmas.{within_areas}
+use Rattle.plain_laws.proofs.Alls.{all_weaker}
 
 -- ---- the sizes of the areas' intervals
 
@@ -99,7 +99,7 @@ defined_item defs (Range set ci at bytes) fit = (fit.0, defined_interval defs se
 pub defined_items : (defs : Defs) (places : List Place) (items : List Item) → places ≡ places_of defs
     → AllByRecursion (IsFitItem places) items → AllByRecursion (IsFit defs) items
 defined_items defs places items e fit =
-    all_then (IsFitItem (places_of defs)) (IsFit defs) items (defined_item defs)
+    all_weaker (IsFitItem (places_of defs)) (IsFit defs) items (defined_item defs)
     (subst (λ ps. AllByRecursion (IsFitItem ps) items) e fit)
 
 fit_image : (defs : Defs) (item : Item) → IsFit defs item → IsFitImage (places_of defs) item
@@ -109,4 +109,4 @@ fit_image defs (Range set ci at bytes) fit = tt
 
 pub fit_images : (defs : Defs) (items : List Item) → AllByRecursion (IsFit defs) items
     → AllByRecursion (IsFitImage (places_of defs)) items
-fit_images defs items fit = all_then (IsFit defs) (IsFitImage (places_of defs)) items (fit_image defs) fit
+fit_images defs items fit = all_weaker (IsFit defs) (IsFitImage (places_of defs)) items (fit_image defs) fit

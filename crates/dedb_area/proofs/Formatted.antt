@@ -13,12 +13,13 @@ use Rattle.ci_space.specs.declared.intervals.Shape.{Shape}
 use Rattle.ci_space.specs.Interval.{is_size}
 use Rattle.ci_overflow.specs.Places.{first_independent}
 use Rattle.area_redo.specs.Redo.{interval_in}
-use Rattle.area_redo.proofs.Places.{apart, interval_written, interval_other, written_reaches}
+use Rattle.area_redo.proofs.Places.{interval_written, interval_other, written_reaches}
 use Rattle.area_states.specs.declared.place.Place.{Place}
 use Rattle.fp_model.specs.State.{first_area_set}
 use Rattle.area_states.specs.Places.{place_at, IsPlace, ArePlaces}
 use Rattle.dedb_area.specs.Formatting.{StartsAs, IsStarted, IsFormatted}
 use Rattle.dedb_area.specs.Keeping.{OnlyAreas}
+use Rattle.plain_laws.proofs.Numbers.{apart}
 
 pub started_none : (shape : Shape) (contents : List ℕ) → IsStarted shape 0 contents
 started_none shape contents = record {

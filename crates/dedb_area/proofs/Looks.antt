@@ -56,7 +56,7 @@ module _ {S : Type 0} (told : S → Type 0) (disk : S → Disk) (faults holds : 
     law = lawful old t
 
     law2 : IsLawful (disk new)
-    law2 = lawful new (looks.tells t)
+    law2 = lawful new (looks.continued.still_told t)
 
     spares : SparesAreas layout bytes (disk old) (disk new)
     spares = stays_spares layout bytes (disk old) (disk new) law law2 (looks.stays t)
@@ -85,11 +85,8 @@ module _ {S : Type 0} (told : S → Type 0) (disk : S → Disk) (faults holds : 
 
   pub areas_looked : LooksAtAreas told disk faults holds keeps old new was now
   areas_looked = record {
-    tells = looks.tells;
+    continued = looks.continued;
     stays = looks.stays;
-    later = looks.later;
-    same = looks.same;
-    known = looks.known;
     places = refl;
     unsynced = refl;
     imaged = refl;

@@ -26,13 +26,12 @@ use Rattle.area_staging.specs.Staging.{length_listed}
 use Rattle.dedb_area.specs.Anchors.{intervals_of}
 use Rattle.dedb_area.specs.Committing.{committed, is_concerned}
 use Rattle.dedb_area.specs.inside.Committing.{ChangesOneSegment, MakesArea, OneChanged}
+use Rattle.plain_laws.proofs.Truths.{first_of_both}
+use Rattle.plain_laws.proofs.Numbers.{is_number}
+use Rattle.area_laws.proofs.StartLemmas.{listed_at}
 
 pub not_both : true ≡ false → ⊥
 not_both e = cc
-
-first_of : (a b : Bool) → (a && b) ≡ true → a ≡ true
-first_of true b e = refl
-first_of false b e = absurd (not_both (sym e))
 
 -- ---- at most one
 
@@ -71,7 +70,7 @@ few data_set size ci (a ∷ b ∷ more) one fit up =
     ap (λ t. names_interval data_set y.ci a || (t || names data_set y.ci more)) y.named
     ∙ or_true (names_interval data_set y.ci a) in
     let same : x.ci ≡ y.ci = one x.ci first ∙ sym (one y.ci second) in
-    let before : precedes a b ≡ true = first_of (precedes a b) (is_ascending (b ∷ more)) up in
+    let before : precedes a b ≡ true = first_of_both (precedes a b) (is_ascending (b ∷ more)) up in
     let targets : target_precedes (OfInterval data_set x.ci) (OfInterval data_set y.ci) ≡ true =
     ap (λ t. target_precedes t (OfInterval data_set y.ci)) (sym x.is)
     ∙ ap (target_precedes (item_target a)) (sym y.is) ∙ before in
@@ -102,9 +101,6 @@ module _ (data_set count size : ℕ) (imaged : ℕ → Bool) (bytes : ℕ → Li
 roots_same : (now roots : List Root) → RootsDiffer now roots → now ≡ roots → ⊥
 roots_same now roots d e = roots_apart d.differ.x d.differ.y d.differ.differ (same_there d.differ.at e)
 
-it_is : (n : ℕ) → (n == n) ≡ true
-it_is n = grind arith
-
 pub concerned_by : (place : Place) (c : AnchorChange) → is_concerned place (c ∷ []) [] ≡ true
     → has_anchor place c.dedb c.anchor ≡ true
 concerned_by place c is = by (has_anchor place c.dedb c.anchor) is
@@ -116,7 +112,7 @@ concerned_by place c is = by (has_anchor place c.dedb c.anchor) is
 changed_roots : (place : Place) (state : AreaState) (c : AnchorChange) → has_anchor place c.dedb c.anchor ≡ true
     → (with_change place state c).roots (c.anchor - place.first_anchor) ≡ c.roots
 changed_roots place state c is =
-    let it = it_is (c.anchor - place.first_anchor) in
+    let it = is_number (c.anchor - place.first_anchor) in
     rw is (rw it refl)
 
 module _ (place : Place) (set : ℕ) (imaged : ℕ → Bool) (bytes : ℕ → List ℕ) (changes : List AnchorChange)
@@ -144,11 +140,6 @@ module _ (place : Place) (set : ℕ) (imaged : ℕ → Bool) (bytes : ℕ → Li
   just_one (item ∷ items) most makes = omega (arith, most)
 
 -- ---- the intervals of an area, as a call leaves them
-
-listed_at : (n : ℕ) (f : ℕ → List ℕ) (k : ℕ) → k < n → bytes_at (listed n f) k ≡ f k
-listed_at zero f k lt = absurd (omega (arith, lt))
-listed_at (suc n) f zero lt = refl
-listed_at (suc n) f (suc k) lt = listed_at n (λ i. f (suc i)) k (omega (arith, lt))
 
 pub one_changed : (count after size : ℕ) (bytes : ℕ → List ℕ) (changed : Changes) → Fit after size changed
     → OneChanges (listed count bytes) (listed after (λ ci. held_or (changed ci) (bytes ci)))

@@ -14,7 +14,6 @@ use Rattle.fp_model.specs.declared.definitions.Defs.{Defs}
 use Rattle.fp_model.specs.declared.log.Entry.{Entry}
 use Rattle.ci_pool.specs.Cells.{cell_at}
 use Rattle.ci_pool.specs.Held.{pending_at, staged_at, staged_of, waiting_of}
-use Rattle.root_anchor.proofs.Members.{none_in}
 use Rattle.area_redo.specs.Redo.{AreaBytes, Redoes, StandsIn, count_in, interval_in, names}
 use Rattle.area_redo.specs.Standing.{Owes, all_since_mark, names_at, owes_below, sealed_of}
 use Rattle.area_states.specs.declared.place.Place.{Place}
@@ -26,7 +25,8 @@ use Rattle.area_laws.proofs.StartLemmas.{starts_for}
 use Rattle.dedb_area.specs.Formatting.{StartsAs}
 use Rattle.dedb_area.specs.Opening.{AreFormatted, AreOpened, bytes_in, no_entries}
 use Rattle.dedb_area.specs.Standing.{AreasStand, Holding, IsFitPool, PoolStands, due_of, owed_of}
-use Rattle.dedb_area.proofs.AnchorLemmas.{at_number}
+use Rattle.area_laws.proofs.FullLemmas.{at_set}
+use Rattle.plain_laws.proofs.Alls.{contains_nothing}
 
 -- ---- their bytes
 
@@ -137,7 +137,7 @@ module _ (places : List Place) (disk : Disk) (formatted : AreFormatted places di
 
     none_clean : (set ci : ℕ) (b : List ℕ) → Contains areas.pool.clean ((set, ci), b) → ⊥
     none_clean set ci b c =
-        none_in ((set, ci), b) (subst (λ l. Contains l ((set, ci), b)) opened.none_clean c)
+        contains_nothing ((set, ci), b) (subst (λ l. Contains l ((set, ci), b)) opened.none_clean c)
 
     owes_none : (set ci : ℕ) → owed_of areas.pool set ci ≡ None
     owes_none set ci = ap due_of (none_pending set ci)
@@ -186,7 +186,7 @@ module _ (places : List Place) (disk : Disk) (formatted : AreFormatted places di
         let count = opened.count in
         let same = ap length opened.places in
         elim ((slice_get_cases places number).1) [
-          | inl there ↦ (formatted (first_area_set + number) there.0 (at_number places number there.0 there.2)).durable
+          | inl there ↦ (formatted (first_area_set + number) there.0 (at_set places number there.0 there.2)).durable
           | inr past ↦ (let from = past.0 in absurd (omega (arith, within, count, same, from)))
         ]
 

@@ -1,9 +1,8 @@
 -- What the item of a Purge makes of the newest bytes stands for the databases behind the Purge.
-use Rattle.std.proofs.Common.{◌≡◌, ◌≢◌, inl, inr, ℕ, Bool, true, false, List, [], ◌∷◌, length, refl, sym, ◌∙◌, ap, subst, arith}
+use Rattle.std.proofs.Common.{◌≡◌, ◌≢◌, inl, inr, ℕ, Bool, true, false, List, [], ◌∷◌, length, refl, sym, ◌∙◌, ap, subst}
 use Rattle.std.specs.Prelude.{◌==◌, ◌&&◌, if◌then◌else◌, Option, Some, None}
 use mathlib.Core.Path.{fun_ext}
 use Rattle.std.proofs.lemmas.Bool.{cases_Bool}
-use Rattle.std.proofs.lemmas.Bool.Decides.{nat_tests}
 use Rattle.fp_model.specs.Commit.{purged as purged_databases}
 use Rattle.fp_model.specs.Shape.{IsDbOf}
 use Rattle.fp_model.specs.declared.database.Db.{Db}
@@ -26,6 +25,7 @@ use Rattle.dedb_area.proofs.AnchorLemmas.{counted_area, state_here}
 use Rattle.dedb_area.proofs.Data.{place_there}
 use Rattle.dedb_area.proofs.PurgeItems.{both, made}
 use Rattle.dedb_area.proofs.Purges.{purged_here}
+use Rattle.plain_laws.proofs.Numbers.{is_number, other_number}
 
 -- ---- the bytes
 
@@ -49,12 +49,6 @@ other_is data_set flag control new (Some item) newest change s k other =
     redone_none s k (item ∷ []) (newest s k)
     (names_one s k item ∙ names_item flag data_set 0 control new item change.1 s k ∙ other)
 
-it_is : (n : ℕ) → (n == n) ≡ true
-it_is n = grind arith
-
-is_not : (s data_set : ℕ) → s ≢ data_set → (s == data_set) ≡ false
-is_not s data_set ne = grind (arith, nat_tests, ne)
-
 -- ---- the areas
 
 module _ (defs : Defs) (data_set n : ℕ) (db next : Db) (newest : AreaBytes) (flag : Bool) (pool : Held)
@@ -66,7 +60,7 @@ module _ (defs : Defs) (data_set n : ℕ) (db next : Db) (newest : AreaBytes) (f
     where
       at : (k : ℕ) → redone_at data_set k (items_in item) (newest data_set k) ≡ with_control p.new (newest data_set) k
       at k =
-          let it = it_is data_set in
+          let it = is_number data_set in
           elim (cases_Bool (k == 0)) [
             | inl first ↦
                 control_is data_set flag (newest data_set 0) p.new item newest long p.change refl data_set k
@@ -83,7 +77,7 @@ module _ (defs : Defs) (data_set n : ℕ) (db next : Db) (newest : AreaBytes) (f
       at : (k : ℕ) → redone_at s k (items_in item) (newest s k) ≡ newest s k
       at k =
           other_is data_set flag (newest data_set 0) p.new item newest p.change s k
-          (ap (λ t. t && k == 0) (is_not s data_set ne))
+          (ap (λ t. t && k == 0) (other_number s data_set ne))
 
   here_purged : (place : Place) → place_at (places_of defs) data_set ≡ Some place
       → HasState place (area_in (layout_of (places_of defs)) (redone (items_in item) newest) data_set)

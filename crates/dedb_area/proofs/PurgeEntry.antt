@@ -17,13 +17,14 @@ use Rattle.area_redo.proofs.Items.{redone_none}
 use Rattle.area_states.specs.declared.place.Place.{Place}
 use Rattle.area_states.specs.Places.{counted_by, place_at}
 use Rattle.dedb_area.specs.Appending.{MayEnter}
-use Rattle.area_staging.specs.Items.{IsChange, IsItemOf, is_imaged}
+use Rattle.area_staging.specs.Items.{IsChange, is_imaged}
 use Rattle.area_staging.specs.Items.{items_in}
 use Rattle.dedb_area.specs.Purging.{IsPurgeStaged, IsPurged}
 use Rattle.dedb_area.specs.Standing.{AreasStand, Holding}
 use Rattle.dedb_area.proofs.Purges.{third_stays}
 use Rattle.area_staging.proofs.ItemLemmas.{names_item, names_one}
 use Rattle.dedb_area.proofs.PurgeItems.{both, made}
+use Rattle.area_staging.proofs.Steps.{image_then}
 
 -- ---- it begins with an image
 
@@ -33,11 +34,6 @@ begins_one s k item f = elim (cases_Bool (names_interval s k item)) [
   | inl e ↦ let image = f e in rw e image
   | inr e ↦ rw e refl
 ]
-
-image_of : (flag : Bool) (set ci : ℕ) (old new : List ℕ) (item : Item) → flag ≡ false → IsItemOf flag set ci old new item
-    → is_image item ≡ true
-image_of false set ci old new item none is = ap is_image is
-image_of true set ci old new item none is = absurd cc
 
 begins_change : (way : Way) (imaged : List (List Bool)) (set : ℕ) (old new : List ℕ) (item : Option Item)
     → IsChange (is_imaged imaged set 0) set 0 old new item → AreImaged way (is_imaged imaged) → (s k : ℕ)
@@ -49,7 +45,7 @@ begins_change way imaged set old new (Some item) change flags s k none = begins_
     let at = both s k set here in
     let flag : is_imaged imaged set 0 ≡ false =
     ap (λ x. is_imaged imaged x 0) (sym at.0) ∙ ap (is_imaged imaged s) (sym at.1) ∙ flags s k ∙ none in
-    image_of (is_imaged imaged set 0) set 0 old new item flag change.1)
+    image_then (is_imaged imaged set 0) set 0 old new item flag change.1)
 
 -- ---- it makes no interval new
 

@@ -1,6 +1,6 @@
 -- One area staged: what it shows, and what its calls answer.
 use Rattle.std.proofs.Common.{◌≡◌, ℕ, List, sym, ◌∙◌, ap, subst, arith}
-use Rattle.std.specs.Prelude.{Some, Result, Ok, Err, IfOk, OnOk}
+use Rattle.std.specs.Prelude.{Some, Result, Ok, Err, IfOk}
 use Rattle.fp_model.specs.declared.log.Item.{Item}
 use Rattle.ci_pool.specs.Held.{Held, staged_at}
 use Rattle.held_intervals.specs.Holding.{listed}
@@ -44,10 +44,6 @@ pub ok_both : {T : Type 0} {F : Type 0} (r : Result T F) (P Q R : T → Type 0) 
     → ((x : T) → P x → Q x → R x) → IfOk r R
 ok_both (Ok x) P Q R p q f = f x p q
 ok_both (Err e) P Q R p q f = tt
-
-pub on_ok : {T F : Type 0} (r : Result T F) (P : Type 0) → P → OnOk r P
-on_ok (Ok x) P p = p
-on_ok (Err e) P p = tt
 
 -- an error that is handed on is that error
 pub same_err : {T U F : Type 0} (a b : F) → ◌≡◌ {A = Result T F} (Err a) (Err b) → ◌≡◌ {A = Result U F} (Err a) (Err b)

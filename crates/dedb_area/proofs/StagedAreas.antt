@@ -15,7 +15,7 @@ use Rattle.fp_model.specs.declared.log.Item.{Item}
 use Rattle.fp_model.specs.declared.log.Item.TheVariants.{Segment, Image, Range}
 use Rattle.ci_pool.specs.Held.{Held, staged_at}
 use Rattle.area_redo.specs.Redo.{AreaBytes, ComesWhole, count_in, names, redone, redone_at}
-use Rattle.area_redo.proofs.Items.{begins_named, begins_none, names_more, redone_more, redone_none}
+use Rattle.area_redo.proofs.Items.{begins_named, begins_none, names_more, redone_more, redone_none, begins_nothing}
 use Rattle.area_states.specs.declared.place.Place.{Place}
 use Rattle.area_states.specs.Databases.{state_of}
 use Rattle.area_states.specs.Places.{counted_by, layout_of, place_at}
@@ -25,12 +25,14 @@ use Rattle.area_staging.specs.inside.Changing.{AllBefore}
 use Rattle.area_staging.specs.Flags.{AreFlagged, IsFlagged}
 use Rattle.area_staging.specs.Items.{DiffersAtEnds, HasFlag}
 use Rattle.area_staging.proofs.Flags.{all_flagged}
-use Rattle.area_staging.proofs.Orders.{all_fit_before, all_join, all_later, all_then, ascends_join, before_all_fit}
+use Rattle.area_staging.proofs.Orders.{all_fit_before, all_later, ascends_join, before_all_fit}
 use Rattle.dedb_area.specs.Anchors.{intervals_of}
 use Rattle.dedb_area.specs.Committing.{IsFitItem, IsLeast, committed}
 use Rattle.dedb_area.specs.inside.Committing.{AreStagedUpTo, HasRoomFor, MakesArea}
 use Rattle.dedb_area.specs.Standing.{IsUnstaged}
 use Rattle.dedb_area.proofs.AnchorLemmas.{within_areas}
+use Rattle.plain_laws.proofs.Alls.{all_append, all_weaker}
+use Rattle.plain_laws.proofs.Truths.{or_false}
 
 -- ---- lists of items
 
@@ -52,17 +54,6 @@ only set size s ci [] ne fit = refl
 only set size s ci (item ∷ items) ne fit =
     let first = one_only set size s ci item ne fit.0 in
     rw first (only set size s ci items ne fit.1)
-
-or_false : (b : Bool) → (b || false) ≡ b
-or_false true = refl
-or_false false = refl
-
-begins_unnamed : (s ci : ℕ) (items : List Item) → names s ci items ≡ false → begins_with_image s ci items ≡ true
-begins_unnamed s ci [] none = refl
-begins_unnamed s ci (item ∷ items) none = elim (cases_Bool (names_interval s ci item)) [
-  | inl is ↦ let both : true ≡ false = rw is at none in absurd cc
-  | inr other ↦ let rest : names s ci items ≡ false = rw other at none in rw other (begins_unnamed s ci items rest)
-]
 
 -- ---- nothing is staged at first
 
@@ -127,7 +118,7 @@ module _ (places : List Place) (n : ℕ) (imaged : ℕ → ℕ → Bool) (newest
   begins_there : (s ci : ℕ) → s ≢ set → begins_with_image s ci items ≡ true → begins_with_image s ci all ≡ true
   begins_there s ci ne was = elim (cases_Bool (names s ci items)) [
     | inl named ↦ begins_named s ci items more named ∙ was
-    | inr none ↦ begins_none s ci items more none ∙ begins_unnamed s ci more (more_none s ci ne)
+    | inr none ↦ begins_none s ci items more none ∙ begins_nothing s ci more (more_none s ci ne)
   ]
 
   bytes_here : redone all newest set ≡ (λ ci. redone_at set ci more (newest set ci))
@@ -261,8 +252,8 @@ pub fit_more_items : (places : List Place) (set : ℕ) (place : Place) (items mo
     → place_at places set ≡ Some place → AllByRecursion (IsFitItem places) items
     → AllByRecursion (IsFitFor set place.shape.ci) more → AllByRecursion (IsFitItem places) (items ++ more)
 fit_more_items places set place items more is all fit =
-    all_join (IsFitItem places) items more all
-    (all_then (IsFitFor set place.shape.ci) (IsFitItem places) more (λ item f. fit_item places set place item is f) fit)
+    all_append (IsFitItem places) items more all
+    (all_weaker (IsFitFor set place.shape.ci) (IsFitItem places) more (λ item f. fit_item places set place item is f) fit)
 
 -- each is the least
 least_item : (places : List Place) (data_set : ℕ) (place : Place) (a b : ℕ → ℕ → Bool) (newest : AreaBytes) (item : Item)
@@ -294,7 +285,7 @@ pub least_more_items : (places : List Place) (data_set : ℕ) (place : Place) (a
     → AllByRecursion (IsLeastOf (counted_by (Some place) (newest data_set 0)) (a data_set) (newest data_set)) more
     → AllByRecursion (IsFitFor data_set place.shape.ci) more → AllByRecursion (IsLeast places b newest) (items ++ more)
 least_more_items places data_set place a b newest items more is same all least fit =
-    all_join (IsLeast places b newest) items more all
+    all_append (IsLeast places b newest) items more all
     (least_items places data_set place a b newest more is same fit least)
 
 pub order_more_items : (set size : ℕ) (items more : List Item) → AllBefore set 0 items → is_ascending items ≡ true
@@ -305,14 +296,14 @@ order_more_items set size items more before up up2 fit =
 pub before_next_area : (set next size : ℕ) (items more : List Item) → set < next → AllBefore set 0 items
     → AllByRecursion (IsFitFor set size) more → AllBefore next 0 (items ++ more)
 before_next_area set next size items more lt before fit =
-    all_join (λ item. target_precedes (item_target item) (OfInterval next 0) ≡ true) items more
+    all_append (λ item. target_precedes (item_target item) (OfInterval next 0) ≡ true) items more
     (all_later items set next 0 before (omega (arith, lt))) (all_fit_before set size next 0 more lt fit)
 
 pub flag_more_items : (imaged after : List (List Bool)) (items more : List Item)
     → ((s k : ℕ) → HasFlag imaged s k → HasFlag after s k) → AreFlagged imaged items → AreFlagged after more
     → AreFlagged after (items ++ more)
 flag_more_items imaged after items more kept all flagged =
-    all_join (IsFlagged after) items more (all_flagged imaged after kept items all) flagged
+    all_append (IsFlagged after) items more (all_flagged imaged after kept items all) flagged
 
 -- with the same flags
 pub makes_as : (place : Place) (data_set : ℕ) (a b : ℕ → Bool) (bytes : ℕ → List ℕ) (state : AreaState) (items : List Item)

@@ -150,11 +150,8 @@ module _ {S : Type 0} (told : S → Type 0) (disk : S → Disk) (faults holds : 
 
   pub stages_here : StagesInAreas told disk faults holds keeps old new was now
   stages_here = record {
-    tells = looks.tells;
+    continued = looks.continued;
     stays = looks.stays;
-    later = looks.later;
-    same = looks.same;
-    known = looks.known;
     places = refl;
     unsynced = refl;
     imaged = flagged;
@@ -185,10 +182,6 @@ module _ {S : Type 0} (told : S → Type 0) (disk : S → Disk) (faults holds : 
 
 pub still_unstaged : (pool mid : Held) → mid.cells ≡ pool.cells → IsUnstaged pool → IsUnstaged mid
 still_unstaged pool mid cells none s k = same_staged pool mid cells s k ∙ none s k
-
-pub at_err : {T E : Type 0} (r : Result T E) (P : Type 0) → P → OnErr r P
-at_err (Ok x) P p = tt
-at_err (Err e) P p = p
 
 -- ---- what is staged
 

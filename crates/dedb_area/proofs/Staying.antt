@@ -1,10 +1,11 @@
 -- What stays while areas are staged, and how they stand with it.
-use Rattle.std.proofs.Common.{◌≡◌, ℕ, ◌+◌, Bool, false, List, refl, sym, ◌∙◌, ap, subst, arith}
+use Rattle.std.proofs.Common.{◌≡◌, ℕ, ◌+◌, Bool, false, List, refl, sym, ◌∙◌, ap, subst}
 use Rattle.std.specs.Prelude.{Contains, Option, Some, None, IsSome, slice_get}
 use mathlib.Core.Path.{fun_ext}
 use Rattle.fp_site.specs.Disk.{Disk, IsLawful}
 use Rattle.fp_site.proofs.Images.{durable_stays}
 use Rattle.fp_site.proofs.Runs.{stays_then}
+use Rattle.fp_lists.proofs.ContinuedLemmas.{continued_both, continued_none}
 use Rattle.fp_model.specs.Items.{items_of}
 use Rattle.fp_model.specs.State.{first_area_set}
 use Rattle.ci_pool.specs.Held.{Held, HasSize, pending_at}
@@ -30,11 +31,8 @@ module _ {S : Type 0} (told : S → Type 0) (disk : S → Disk) (faults holds : 
   -- no call yet
   pub all_itself : (s : S) (pool : Held) → StagesAll told disk faults holds keeps places s s pool pool
   all_itself s pool = record {
-    tells = λ t. t;
+    continued = continued_none told faults holds keeps s;
     stays = λ t. stays_itself (disk s);
-    later = omega arith;
-    same = refl;
-    known = λ first k. k;
     pending = λ n k. refl;
     others = λ n k none. refl;
     sizes = λ was. was;
@@ -47,19 +45,16 @@ module _ {S : Type 0} (told : S → Type 0) (disk : S → Disk) (faults holds : 
       → Stages told disk faults holds keeps set place.shape.ci b c q r
       → StagesAll told disk faults holds keeps places a c p r
   all_more lawful set place a b c p q r is first second = record {
-    tells = λ t. second.tells (first.tells t);
-    stays = λ t. stays_then (disk a) (disk b) (disk c) (lawful a t) (lawful b (first.tells t)) (first.stays t)
-        (second.stays (first.tells t));
-    later = omega (arith, first.later, second.later);
-    same = second.same ∙ first.same;
-    known = λ s k. second.known s (first.known s k);
+    continued = continued_both told faults holds keeps a b c first.continued second.continued;
+    stays = λ t. stays_then (disk a) (disk b) (disk c) (lawful a t) (lawful b (first.continued.still_told t))
+        (first.stays t) (second.stays (first.continued.still_told t));
     pending = λ s k. second.pending s k ∙ first.pending s k;
     others = λ s k none.
         second.others s k (λ e. none (subst IsSome (sym (ap (place_at places) e ∙ is)) refl))
         ∙ first.others s k none;
     sizes = λ was s other there.
         second.sizes s other.shape.ci (same_size s other there) (first.sizes was s other there);
-    clean = λ t was. second.clean (first.tells t) (first.clean t was);
+    clean = λ t was. second.clean (first.continued.still_told t) (first.clean t was);
   }
     where
       same_size : (s : ℕ) (other : Place) → place_at places s ≡ Some other → s ≡ set
@@ -115,11 +110,8 @@ module _ {S : Type 0} (told : S → Type 0) (disk : S → Disk) (faults holds : 
 
     pub stages_areas : StagesInAreas told disk faults holds keeps old new was now
     stages_areas = record {
-      tells = stages.tells;
+      continued = stages.continued;
       stays = stages.stays;
-      later = stages.later;
-      same = stages.same;
-      known = stages.known;
       places = refl;
       unsynced = refl;
       imaged = flagged;
@@ -128,7 +120,7 @@ module _ {S : Type 0} (told : S → Type 0) (disk : S → Disk) (faults holds : 
       areas = λ t way bytes.
           let layout : Layout = layout_of places in
           let law : IsLawful (disk old) = lawful old t in
-          let law2 : IsLawful (disk new) = lawful new (stages.tells t) in
+          let law2 : IsLawful (disk new) = lawful new (stages.continued.still_told t) in
           let spares : SparesAreas layout bytes (disk old) (disk new) =
           stays_spares layout bytes (disk old) (disk new) law law2 (stages.stays t) in
           record {
@@ -210,11 +202,8 @@ module _ {S : Type 0} (told : S → Type 0) (disk : S → Disk) (faults holds : 
   -- what was staged is dropped: the areas stand as before
   pub drop_stages : StagesInAreas told disk faults holds keeps old new before after
   drop_stages = record {
-    tells = stages.tells;
+    continued = stages.continued;
     stays = stages.stays;
-    later = stages.later;
-    same = stages.same;
-    known = stages.known;
     places = stages.places;
     unsynced = stages.unsynced;
     imaged = stages.imaged;

@@ -20,8 +20,8 @@ use Rattle.area_states.specs.Places.{place_at, size_of, ArePlaces, layout_of}
 use Rattle.dedb_area.specs.Standing.{Holding, IsFitPool, due_of, owed_of, PoolStands, AreSynced}
 use Rattle.dedb_area.specs.Keeping.{KeepsAreas, OnlyAreas, IsWritten, StillWaits}
 use Rattle.dedb_area.proofs.Owing.{owed_less, written_waits, same_waits, still_owed, fit_still}
-use Rattle.area_staging.proofs.Data.{there}
 use Rattle.dedb_area.proofs.Data.{area_behind, some_size, place_there}
+use Rattle.plain_laws.proofs.Options.{some_value}
 
 -- the bytes of an interval are written whole, or any in their place
 pub data Wrote (pool after : Held) (set ci : ℕ) (w : Waiting) (old new : Disk) : Type 0 where
@@ -116,7 +116,7 @@ module _ (places : List Place) (flags flags2 : List Bool) (pool after : Held) (s
     (staged : (s k : ℕ) → staged_at after s k ≡ staged_at pool s k) (how : Wrote pool after set ci w old new) where
   module _ (fit : IsFitPool places pool) where
     place : (p : Place) × (place_at places set ≡ Some p)
-    place = there (place_at places set) (fit.areas set ci w is)
+    place = some_value (place_at places set) (fit.areas set ci w is)
 
     size_is : (layout_of places).size set ≡ place.0.shape.ci
     size_is = ap size_of place.1

@@ -1,6 +1,7 @@
 -- What is staged of areas becomes pending for an entry, and how the areas stand with it.
-use Rattle.std.specs.Prelude.{◌≡◌, ℕ, ◌-◌, ◌<◌, ◌≤◌, ◌^◌, List}
+use Rattle.std.specs.Prelude.{◌≡◌, ℕ, ◌-◌, ◌<◌, ◌^◌, List}
 use Rattle.fp_site.specs.Disk.{Disk, Stays}
+use Rattle.fp_lists.specs.Continued.{IsContinued}
 use Rattle.fp_model.specs.declared.log.Entry.{Entry}
 use Rattle.fp_model.specs.declared.log.Item.{Item}
 use Rattle.fp_model.specs.Items.{items_of}
@@ -55,11 +56,8 @@ pub record KeepsStaged (way : Way) (bytes : AreaBytes) (old new : Disk) (before 
 -- stand do so with what is staged.
 pub record StagesInAreas {S : Type 0} (told : S → Type 0) (disk : S → Disk) (faults holds : S → ℕ)
     (keeps : S → S → Type 0) (old new : S) (before after : Holding) : Type 0 where
-  pub tells : told old → told new
+  pub continued : IsContinued told faults holds keeps old new
   pub stays : told old → Stays (disk old) (disk new)
-  pub later : faults old ≤ faults new
-  pub same : holds new ≡ holds old
-  pub known : (first : S) → keeps first old → keeps first new
   pub places : after.places ≡ before.places
   pub unsynced : after.unsynced ≡ before.unsynced
   pub imaged : (set ci : ℕ) → is_imaged after.imaged set ci ≡ is_imaged before.imaged set ci

@@ -1,6 +1,7 @@
 -- What calls that change no area keep of all areas.
-use Rattle.std.specs.Prelude.{◌≡◌, ℕ, ◌≤◌}
+use Rattle.std.specs.Prelude.{◌≡◌, ℕ}
 use Rattle.fp_site.specs.Disk.{Disk, Stays}
+use Rattle.fp_lists.specs.Continued.{IsContinued}
 use Rattle.area_redo.specs.Redo.{AreaBytes}
 use Rattle.area_redo.specs.Standing.{Way}
 use Rattle.dedb_area.specs.Standing.{Holding, IsFitPool}
@@ -10,11 +11,8 @@ use Rattle.dedb_area.specs.Keeping.{KeepsAreas}
 -- behind it.
 pub record LooksAtAreas {S : Type 0} (told : S → Type 0) (disk : S → Disk) (faults holds : S → ℕ) (keeps : S → S → Type 0)
     (old new : S) (before after : Holding) : Type 0 where
-  pub tells : told old → told new
+  pub continued : IsContinued told faults holds keeps old new
   pub stays : told old → Stays (disk old) (disk new)
-  pub later : faults old ≤ faults new
-  pub same : holds new ≡ holds old
-  pub known : (first : S) → keeps first old → keeps first new
   pub places : after.places ≡ before.places
   pub unsynced : after.unsynced ≡ before.unsynced
   pub imaged : after.imaged ≡ before.imaged

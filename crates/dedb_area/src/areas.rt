@@ -2,6 +2,7 @@
 
 ghost use Rattle.std.specs.Prelude.{Err, IsErrOf, ◌≡◌, ◌≢◌, ◌+◌, ◌-◌, ◌≤◌, ◌<◌, ℕ, Ok, Some, None, true, false, IsSome, IfOk, OnOk, OnErr, IsTrue, slice_get, [], length, is_some};
 ghost use Rattle.fp_site.specs.Site.{ReadsNothing};
+ghost use Rattle.fp_lists.specs.Continued.{IsContinued};
 ghost use Rattle.fp_lists.specs.Faults.{Counts, Rose};
 ghost use Rattle.fp_model.specs.State.{roots_at};
 ghost use Rattle.fp_model.specs.WellFormed.{AreDefs};
@@ -221,9 +222,7 @@ impl Areas {
         ensures cause { Counts (T.faults site.old) (T.faults site.new) result }
         ensures reads { ReadsNothing (T.tells_reads site.old) (T.tells_reads site.new) (T.bytes_read site.old)
             (T.bytes_read site.new) }
-        ensures told { T.told site.old → T.told site.new }
-        ensures holds { T.holds site.new ≡ T.holds site.old }
-        ensures keeps { (first : T) → T.keeps first site.old → T.keeps first site.new }
+        ensures site { IsContinued T.told T.faults T.holds T.keeps site.old site.new }
     {
         note_write(&mut self.unsynced, set);
         self.pool.write_one(site, set, ci)
@@ -254,9 +253,7 @@ impl Areas {
         ensures cause { Counts (T.faults site.old) (T.faults site.new) result }
         ensures reads { ReadsNothing (T.tells_reads site.old) (T.tells_reads site.new) (T.bytes_read site.old)
             (T.bytes_read site.new) }
-        ensures told { T.told site.old → T.told site.new }
-        ensures holds { T.holds site.new ≡ T.holds site.old }
-        ensures keeps { (first : T) → T.keeps first site.old → T.keeps first site.new }
+        ensures site { IsContinued T.told T.faults T.holds T.keeps site.old site.new }
     {
         match self.pool.oldest_sealed(sealed) {
             None => Ok(false),
@@ -298,9 +295,7 @@ impl Areas {
         ensures cause { Counts (T.faults site.old) (T.faults site.new) result }
         ensures reads { ReadsNothing (T.tells_reads site.old) (T.tells_reads site.new) (T.bytes_read site.old)
             (T.bytes_read site.new) }
-        ensures told { T.told site.old → T.told site.new }
-        ensures holds { T.holds site.new ≡ T.holds site.old }
-        ensures keeps { (first : T) → T.keeps first site.old → T.keeps first site.new }
+        ensures site { IsContinued T.told T.faults T.holds T.keeps site.old site.new }
     {
         let due = self.pool.owed(count, sealed);
         if let Owed::Write(set, ci) = due {
@@ -331,9 +326,7 @@ impl Areas {
         ensures cause { Counts (T.faults site.old) (T.faults site.new) result }
         ensures reads { ReadsNothing (T.tells_reads site.old) (T.tells_reads site.new) (T.bytes_read site.old)
             (T.bytes_read site.new) }
-        ensures told { T.told site.old → T.told site.new }
-        ensures holds { T.holds site.new ≡ T.holds site.old }
-        ensures keeps { (first : T) → T.keeps first site.old → T.keeps first site.new }
+        ensures site { IsContinued T.told T.faults T.holds T.keeps site.old site.new }
     {
         match self.pool.oldest_sealed(u64::MAX) {
             None => Ok(false),
@@ -372,9 +365,7 @@ impl Areas {
         ensures cause { Counts (T.faults site.old) (T.faults site.new) result }
         ensures reads { ReadsNothing (T.tells_reads site.old) (T.tells_reads site.new) (T.bytes_read site.old)
             (T.bytes_read site.new) }
-        ensures told { T.told site.old → T.told site.new }
-        ensures holds { T.holds site.new ≡ T.holds site.old }
-        ensures keeps { (first : T) → T.keeps first site.old → T.keeps first site.new }
+        ensures site { IsContinued T.told T.faults T.holds T.keeps site.old site.new }
     {
         'writes: while self.write_next(site)? {}
         self.sync_written(site)
@@ -402,9 +393,7 @@ impl Areas {
         ensures cause { Counts (T.faults site.old) (T.faults site.new) result }
         ensures reads { ReadsNothing (T.tells_reads site.old) (T.tells_reads site.new) (T.bytes_read site.old)
             (T.bytes_read site.new) }
-        ensures told { T.told site.old → T.told site.new }
-        ensures holds { T.holds site.new ≡ T.holds site.old }
-        ensures keeps { (first : T) → T.keeps first site.old → T.keeps first site.new }
+        ensures site { IsContinued T.told T.faults T.holds T.keeps site.old site.new }
     {
         sync_all(site, &self.unsynced)?;
         clear(&mut self.unsynced);

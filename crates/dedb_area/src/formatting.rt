@@ -1,6 +1,7 @@
 //! Areas as they start.
 
 ghost use Rattle.std.specs.Prelude.{◌≡◌, ◌≢◌, ◌+◌, ◌-◌, ◌*◌, ◌<◌, ◌≤◌, ◌^◌, ℕ, [], ◌∷◌, List, Some, None, IfOk, OnOk, OnErr, IsErrOf, IsTrue, Err, length, slice_get};
+ghost use Rattle.fp_lists.specs.Continued.{IsContinued};
 ghost use Rattle.fp_lists.specs.Faults.{Rose};
 ghost use Rattle.ci_space.specs.Interval.{is_size, is_kind, kind_of, empty_bytes};
 ghost use Rattle.ci_space.specs.Head.{ends_of};
@@ -102,14 +103,11 @@ fn write_start<T: Site>(
     ensures areas { T.told site.old → OnlyAreas (T.disk site.old) (T.disk site.new) }
     ensures aside { T.told site.old → (k : ℕ) → k ≢ set → IsDurable (T.disk site.old) k → IsDurable (T.disk site.new) k }
     ensures failed { IsErrOf result fault.Device → Rose (T.faults site.old) (T.faults site.new) }
-    ensures later { T.faults site.old ≤ T.faults site.new }
     ensures never_damaged { (s at : ℕ) → result ≢ Err (fault.Damaged s at) }
     ensures never_full { (s begin end n : ℕ) → result ≢ Err (fault.SeqFull s begin end n) }
     ensures reads { ReadsNothing (T.tells_reads site.old) (T.tells_reads site.new) (T.bytes_read site.old)
         (T.bytes_read site.new) }
-    ensures told { T.told site.old → T.told site.new }
-    ensures holds { T.holds site.new ≡ T.holds site.old }
-    ensures keeps { (first : T) → T.keeps first site.old → T.keeps first site.new }
+    ensures site { IsContinued T.told T.faults T.holds T.keeps site.old site.new }
 {
     let interval = start_of(alloc, shape, ci)?;
     match site.write_at(set, ci * u64::from(shape.ci), interval.whole()) {
@@ -135,14 +133,11 @@ fn format_area<T: Site>(
     ensures aside { T.told site.old → (k : ℕ) → k ≢ set → IsDurable (T.disk site.old) k
         → IsDurable (T.disk site.new) k }
     ensures failed { IsErrOf result fault.Device → Rose (T.faults site.old) (T.faults site.new) }
-    ensures later { T.faults site.old ≤ T.faults site.new }
     ensures never_damaged { (s at : ℕ) → result ≢ Err (fault.Damaged s at) }
     ensures never_full { (s begin end n : ℕ) → result ≢ Err (fault.SeqFull s begin end n) }
     ensures reads { ReadsNothing (T.tells_reads site.old) (T.tells_reads site.new) (T.bytes_read site.old)
         (T.bytes_read site.new) }
-    ensures told { T.told site.old → T.told site.new }
-    ensures holds { T.holds site.new ≡ T.holds site.old }
-    ensures keeps { (first : T) → T.keeps first site.old → T.keeps first site.new }
+    ensures site { IsContinued T.told T.faults T.holds T.keeps site.old site.new }
 {
     for ci in 0..first_independent(shape) {
         write_start(alloc, site, set, shape, ci)?;
@@ -161,14 +156,11 @@ fn format_all<T: Site>(alloc: Global, site: &mut T, places: &[Place]) -> Result<
         → slice_get places.now number ≡ Some place → IsFormatted place.shape (first_area_set + number) (T.disk site.new)) }
     ensures only { T.told site.old → OnlyAreas (T.disk site.old) (T.disk site.new) }
     ensures failed { IsErrOf result fault.Device → Rose (T.faults site.old) (T.faults site.new) }
-    ensures later { T.faults site.old ≤ T.faults site.new }
     ensures never_damaged { (s at : ℕ) → result ≢ Err (fault.Damaged s at) }
     ensures never_full { (s begin end n : ℕ) → result ≢ Err (fault.SeqFull s begin end n) }
     ensures reads { ReadsNothing (T.tells_reads site.old) (T.tells_reads site.new) (T.bytes_read site.old)
         (T.bytes_read site.new) }
-    ensures told { T.told site.old → T.told site.new }
-    ensures holds { T.holds site.new ≡ T.holds site.old }
-    ensures keeps { (first : T) → T.keeps first site.old → T.keeps first site.new }
+    ensures site { IsContinued T.told T.faults T.holds T.keeps site.old site.new }
 {
     for number in 0..places.len() {
         format_area(
@@ -201,12 +193,9 @@ impl Areas {
         ensures never_full { (s begin end n : ℕ) → result ≢ Err (fault.SeqFull s begin end n) }
 
         // The site.
-        ensures later { T.faults site.old ≤ T.faults site.new }
         ensures reads { ReadsNothing (T.tells_reads site.old) (T.tells_reads site.new) (T.bytes_read site.old)
             (T.bytes_read site.new) }
-        ensures told { T.told site.old → T.told site.new }
-        ensures holds { T.holds site.new ≡ T.holds site.old }
-        ensures keeps { (first : T) → T.keeps first site.old → T.keeps first site.new }
+        ensures site { IsContinued T.told T.faults T.holds T.keeps site.old site.new }
     {
         let places = places_of(alloc, defs)?;
         format_all(alloc, site, &places)

@@ -3,6 +3,7 @@
 ghost use Rattle.std.specs.Prelude.{◌≡◌, ◌≢◌, ◌+◌, ◌≤◌, ℕ, Some, true, false, OnOk, slice_get, length};
 ghost use Rattle.fp_site.specs.Disk.{IsDurable};
 ghost use Rattle.fp_site.specs.Site.{ReadsNothing};
+ghost use Rattle.fp_lists.specs.Continued.{IsContinued};
 ghost use Rattle.fp_lists.specs.Faults.{Counts};
 ghost use Rattle.fp_model.specs.State.{first_area_set};
 ghost use Rattle.dedb_area.specs.inside.Keeping.{SyncsAreas};
@@ -35,9 +36,7 @@ fn sync_one<T: Site>(site: &mut T, needed: bool, set: u16) -> Result<(), Failed>
     ensures cause { Counts (T.faults site.old) (T.faults site.new) result }
     ensures reads { ReadsNothing (T.tells_reads site.old) (T.tells_reads site.new) (T.bytes_read site.old)
         (T.bytes_read site.new) }
-    ensures told { T.told site.old → T.told site.new }
-    ensures holds { T.holds site.new ≡ T.holds site.old }
-    ensures keeps { (first : T) → T.keeps first site.old → T.keeps first site.new }
+    ensures site { IsContinued T.told T.faults T.holds T.keeps site.old site.new }
 {
     if needed { site.sync(set) } else { Ok(()) }
 }
@@ -51,9 +50,7 @@ pub(crate) fn sync_all<T: Site>(site: &mut T, unsynced: &[bool]) -> Result<(), F
     ensures cause { Counts (T.faults site.old) (T.faults site.new) result }
     ensures reads { ReadsNothing (T.tells_reads site.old) (T.tells_reads site.new) (T.bytes_read site.old)
         (T.bytes_read site.new) }
-    ensures told { T.told site.old → T.told site.new }
-    ensures holds { T.holds site.new ≡ T.holds site.old }
-    ensures keeps { (first : T) → T.keeps first site.old → T.keeps first site.new }
+    ensures site { IsContinued T.told T.faults T.holds T.keeps site.old site.new }
 {
     for number in 0..unsynced.len() {
         sync_one(site, unsynced[number], FIRST_AREA + number as u16)?;

@@ -11,6 +11,7 @@ use Rattle.fp_model.specs.Workspace.{change_precedes, put_change}
 use Rattle.dedb_calls.specs.Anchors.{Ascend, change_of, changes_in, held_at, is_anchor_of, stands_before}
 use Rattle.dedb_calls.specs.inside.Anchors.{IsEdited, IsPlaceOf}
 use Rattle.dedb_calls.specs.declared.anchors.HeldAnchor.{HeldAnchor}
+use Rattle.plain_laws.proofs.Numbers.{both_numbers, both_same}
 
 pub not_both : true ≡ false → ⊥
 not_both e = cc
@@ -39,12 +40,6 @@ not_before_back a b c d p = grind (arith, nat_tests)
 -- two of which neither stands before the other
 same_or_after : (a b c d : ℕ) → before a b c d ≡ false → (a == c && b == d) ≡ false → before c d a b ≡ true
 same_or_after a b c d p q = grind (arith, nat_tests)
-
-pub same_numbers : (a b c d : ℕ) → (a == c && b == d) ≡ true → (a ≡ c) × (b ≡ d)
-same_numbers a b c d p = (grind (arith, nat_tests), grind (arith, nat_tests))
-
-same_itself : (a b : ℕ) → (a == a && b == b) ≡ true
-same_itself a b = grind (arith, nat_tests)
 
 pub turned : (a b c d : ℕ) → (a == c && b == d) ≡ false → (c == a && d == b) ≡ false
 turned a b c d p = grind (arith, nat_tests)
@@ -93,7 +88,7 @@ module _ (dedb anchor : ℕ) where
       by : (b : Bool) → is_anchor_of dedb anchor y ≡ b → held_at ys dedb anchor ≡ None
           → held_at (y ∷ ys) dedb anchor ≡ None
       by true e later =
-          let same = same_numbers y.dedb y.anchor dedb anchor e in
+          let same = both_numbers y.dedb y.anchor dedb anchor e in
           absurd (not_both (sym all.0 ∙ ap (λ k. before x.dedb x.anchor k y.anchor) same.0
           ∙ ap (λ k. before x.dedb x.anchor dedb k) same.1 ∙ not_before))
       by false e later = rw e later
@@ -156,9 +151,9 @@ module _ (x : HeldAnchor) where
 
   pub more_found : (xs : List HeldAnchor) (n : ℕ) → IsPlaceOf x.dedb x.anchor xs n → n ≤ length xs
       → held_at (insert xs n x) x.dedb x.anchor ≡ Some x
-  more_found [] zero p within = rw (same_itself x.dedb x.anchor) refl
+  more_found [] zero p within = rw (both_same x.dedb x.anchor) refl
   more_found [] (suc n) p within = absurd (omega (arith, within))
-  more_found (y ∷ ys) zero p within = rw (same_itself x.dedb x.anchor) refl
+  more_found (y ∷ ys) zero p within = rw (both_same x.dedb x.anchor) refl
   more_found (y ∷ ys) (suc n) p within =
       rw (before_differs y.dedb y.anchor x.dedb x.anchor (p.0 0 y (omega (arith)) (omega (arith))))
       (more_found ys n (place_behind x.dedb x.anchor y ys n p) (omega (arith, within)))
@@ -221,7 +216,7 @@ module _ (x : HeldAnchor) (roots : List Root) where
   pub set_found : (xs : List HeldAnchor) (n : ℕ) → Ascend xs → slice_get xs n ≡ Some x
       → held_at (slice_set xs n changed) x.dedb x.anchor ≡ Some changed
   set_found [] n up at = absurd (cc)
-  set_found (y ∷ ys) zero up at = rw (same_itself x.dedb x.anchor) refl
+  set_found (y ∷ ys) zero up at = rw (both_same x.dedb x.anchor) refl
   set_found (y ∷ ys) (suc n) up at =
       rw (before_differs y.dedb y.anchor x.dedb x.anchor (has_at (IsAfter y) ys n x up.0 at))
       (set_found ys n up.1 at)
@@ -282,9 +277,6 @@ pub there_at : (xs : List HeldAnchor) (n : ℕ) (x : HeldAnchor) → n + 1 ≤ l
 there_at [] n x within is = absurd (omega (arith, within))
 there_at (y ∷ ys) zero x within is = ap (λ (z : HeldAnchor). Some z) (sym is)
 there_at (y ∷ ys) (suc n) x within is = there_at ys n x (omega (arith, within)) is
-
-pub some_is : {A : Type 0} (x y : A) → Some x ≡ Some y → x ≡ y
-some_is x y e = cc
 
 pub not_held : (xs : List HeldAnchor) (dedb anchor : ℕ) (a : HeldAnchor) → held_at xs dedb anchor ≡ Some a
     → held_at xs dedb anchor ≡ None → ⊥
@@ -360,7 +352,7 @@ module _ (xs items : List HeldAnchor) (same : items ≡ xs) (dedb anchor n : ℕ
   edited_there x roots new up at its set =
       let y : HeldAnchor = record x { roots = roots; is_changed = true } in
       let here : slice_get xs n ≡ Some x = subst (λ (zs : List HeldAnchor). slice_get zs n ≡ Some x) same at in
-      let names = same_numbers x.dedb x.anchor dedb anchor its in
+      let names = both_numbers x.dedb x.anchor dedb anchor its in
       let named : y ≡ (record { dedb = dedb; anchor = anchor; roots = roots; is_changed = true }) =
       ap (λ (k : ℕ). let z : HeldAnchor = record y { dedb = k } in z) names.0
       ∙ ap (λ (k : ℕ). let z : HeldAnchor = record y { dedb = dedb; anchor = k } in z) names.1 in
@@ -383,10 +375,6 @@ module _ (xs items : List HeldAnchor) (same : items ≡ xs) (dedb anchor n : ℕ
       }
 
 -- ---- results
-
-pub on_err : {A E : Type 0} (r : Result A E) (P : Type 0) → P → OnErr r P
-on_err (Ok a) P p = tt
-on_err (Err e) P p = p
 
 pub on_err_so : {A E : Type 0} (r : Result A E) (P Q : Type 0) → (P → Q) → OnErr r P → OnErr r Q
 on_err_so (Ok a) P Q so p = tt

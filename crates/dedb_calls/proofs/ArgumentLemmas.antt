@@ -10,6 +10,8 @@ use Rattle.dli_tree.specs.Paths.{step_of, steps_of}
 use Rattle.dli_tree.specs.declared.path.Step.{Step as StepOf}
 use Rattle.fp_model.specs.Order.{line_within, parent_of}
 use Rattle.fp_model.specs.Texts.{same_text}
+use Rattle.plain_laws.proofs.Truths.{and_assoc, and_false, and_true}
+use Rattle.plain_laws.proofs.Numbers.{other_number, same_number}
 
 -- without its last, and the last
 pub split : {X : Type 0} (xs : List X) (x : X) → 1 ≤ length xs → x ≡ slice_index_or xs (length xs - 1) x
@@ -39,18 +41,6 @@ map_last : (ssas : List Ssa) (a : Ssa)
     → map (λ (b : Ssa). b.segment) (ssas ++ a ∷ []) ≡ map (λ (b : Ssa). b.segment) ssas ++ a.segment ∷ []
 map_last [] a = refl
 map_last (b ∷ bs) a = ap (λ rest. b.segment ∷ rest) (map_last bs a)
-
-and_true : (b : Bool) → (b && true) ≡ b
-and_true true = refl
-and_true false = refl
-
-and_false : (b : Bool) → (b && false) ≡ false
-and_false true = refl
-and_false false = refl
-
-and_assoc : (a b c : Bool) → (a && (b && c)) ≡ ((a && b) && c)
-and_assoc true b c = refl
-and_assoc false b c = refl
 
 same_last : (xs ys : List ℕ) (x y : ℕ) → same_text (xs ++ x ∷ []) (ys ++ y ∷ []) ≡ (same_text xs ys && x == y)
 same_last [] [] x y = and_true (x == y)
@@ -83,12 +73,6 @@ line_ends (suc n) types type = by (parent_of types type)
         × (option_map_or (λ p. line_within n types p ++ type ∷ []) o (type ∷ []) ≡ front ++ type ∷ [])
     by None = ([], refl)
     by (Some p) = (line_within n types p, refl)
-
-same_number : (a b : ℕ) → a ≡ b → (a == b) ≡ true
-same_number a b e = grind (arith, nat_tests)
-
-other_number : (a b : ℕ) → (a ≡ b → ⊥) → (a == b) ≡ false
-other_number a b e = grind (arith, nat_tests)
 
 module _ (types : List SegDef) (type levels : ℕ) (ssas : List Ssa) (last : Ssa) (some : 1 ≤ length ssas)
     (is : last ≡ slice_index_or ssas (length ssas - 1) last) where

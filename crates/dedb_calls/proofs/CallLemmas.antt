@@ -16,7 +16,7 @@ use Rattle.fp_model.specs.Calls.{OnDedb}
 use Rattle.fp_model.specs.FitCalls.{FitsAnswerOf, FitsDedbCall}
 use Rattle.dedb_calls.specs.Readiness.{ComesTo, IfAnswer}
 use Rattle.dedb_calls.specs.declared.ready.DedbReady.{DedbReady}
-use Rattle.dedb_calls.proofs.AnchorLemmas.{some_is}
+use Rattle.std.proofs.lemmas.Option.{same_Some}
 
 abbrev pub ComesBy : {E : Type 0} → Result DedbReady E → DedbDef → ℕ → (Resource → Option Mode) → Call
     → DedbProgress → DedbProgress → Type 0
@@ -66,7 +66,7 @@ stays_work defs number def old new there work goes fits = record {
         → FitsDedb other d new
     by d other at true same =
         let its = number_is d number same in
-        let def_is : def ≡ other = some_is def other (sym there ∙ ap (slice_get defs) (sym its) ∙ at) in
+        let def_is : def ≡ other = same_Some def other (sym there ∙ ap (slice_get defs) (sym its) ∙ at) in
         subst (λ (n : ℕ). FitsDedb other n new) (sym its) (subst (λ (x : DedbDef). FitsDedb x number new) def_is fits)
     by d other at false apart =
         let f = work.each d other at in
@@ -96,6 +96,6 @@ fits_on def number shown work (call.Get g hold n ssas) fit tied = fit
 fits_on def number shown work (call.Fld n key fsas) fit tied = tt
 fits_on def number shown work (call.Isrt n ssas bytes) fit tied = (fit.0, fit.2)
 fits_on def number shown work (call.Repl n bytes) fit tied = λ place held.
-    let same = some_is fit.0 (type_of_path def number place.path) (sym fit.1 ∙ tied place held) in
+    let same = same_Some fit.0 (type_of_path def number place.path) (sym fit.1 ∙ tied place held) in
     subst (λ (t : ℕ). has_length def.segments t bytes ≡ true) same fit.2
 fits_on def number shown work (call.Dlet n) fit tied = tt

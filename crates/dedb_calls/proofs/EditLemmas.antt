@@ -1,6 +1,5 @@
 -- Edits of an anchor: what they leave of all else, what fits after them, and what the transaction keeps to itself then.
 use Rattle.std.proofs.Common.{◌≡◌, ℕ, List, [], ◌∷◌, length, Some, None, refl, sym, ◌∙◌, ap, subst, Bool, true, false, ◌&&◌, ◌==◌, slice_get, slice_set, unwrap_or, arith}
-use Rattle.std.proofs.lemmas.Bool.Decides.{nat_tests}
 use Rattle.std.specs.Prelude.{filter, if◌then◌else◌, is_some, not}
 use Rattle.fp_model.specs.declared.calls.AnchorChange.{AnchorChange}
 use Rattle.fp_model.specs.declared.calls.SeqInsert.{SeqInsert}
@@ -20,14 +19,11 @@ use Rattle.dedb_calls.specs.inside.Inserts.{IsEditedTo}
 use Rattle.dedb_calls.specs.Progress.{DedbProgress, FitsDedb, GoesOn, held_in, position_in, with_progress}
 use Rattle.dedb_calls.specs.inside.Progress.{with_position_at}
 use Rattle.dedb_calls.specs.declared.anchors.HeldAnchor.{HeldAnchor}
-use Rattle.dedb_calls.proofs.AnchorLemmas.{same_numbers, some_is}
-use Rattle.dedb_calls.proofs.SeenLemmas.{differ, get_other, get_set, length_set}
-
-false_first : (a b : Bool) → a ≡ false → (a && b) ≡ false
-false_first a b e = ap (λ t. t && b) e
-
-both : (d e : ℕ) → d ≡ e → (d == e) ≡ true
-both d e same = grind (arith, nat_tests)
+use Rattle.dedb_calls.proofs.SeenLemmas.{differ}
+use Rattle.plain_laws.proofs.Numbers.{both_numbers, other_number, same_number}
+use Rattle.std.proofs.lemmas.Bool.{and_left}
+use Rattle.plain_laws.proofs.Places.{get_other, get_set, length_set}
+use Rattle.std.proofs.lemmas.Option.{same_Some}
 
 module _ (dedb anchor : ℕ) (roots : List Root) (p : DedbPosition) (inserts : List SeqInsert) (old new : DedbProgress)
     (e : IsEditedTo dedb anchor roots p inserts old new) where
@@ -37,13 +33,13 @@ module _ (dedb anchor : ℕ) (roots : List Root) (p : DedbPosition) (inserts : L
   -- what is held of the anchor itself
   itself : (d n : ℕ) → (d == dedb && n == anchor) ≡ true → held_at new.anchors d n ≡ Some one
   itself d n same =
-      let names = same_numbers d n dedb anchor same in
+      let names = both_numbers d n dedb anchor same in
       ap (λ k. held_at new.anchors k n) names.0 ∙ ap (λ k. held_at new.anchors dedb k) names.1 ∙ e.anchors.there
 
   before : (a : HeldAnchor) → held_at old.anchors dedb anchor ≡ Some a → (d n : ℕ)
       → (d == dedb && n == anchor) ≡ true → held_at old.anchors d n ≡ Some a
   before a at d n same =
-      let names = same_numbers d n dedb anchor same in
+      let names = both_numbers d n dedb anchor same in
       ap (λ k. held_at old.anchors k n) names.0 ∙ ap (λ k. held_at old.anchors dedb k) names.1 ∙ at
 
   pub edited_goes : (a : HeldAnchor) → held_at old.anchors dedb anchor ≡ Some a → GoesOn dedb old new
@@ -53,7 +49,7 @@ module _ (dedb anchor : ℕ) (roots : List Root) (p : DedbPosition) (inserts : L
     positions = λ d other.
         ap (λ (ps : List DedbPosition). slice_get ps d) e.positions
         ∙ get_other old.positions dedb d p (differ d dedb other);
-    anchors = λ d n other. e.anchors.others d n (false_first (d == dedb) (n == anchor) other);
+    anchors = λ d n other. e.anchors.others d n (and_left (d == dedb) (n == anchor) other);
     known = λ d n. known d n (d == dedb && n == anchor) refl;
     sees = λ db sees d n x there stays. seen db sees d n x there stays (d == dedb && n == anchor) refl;
   }
@@ -66,7 +62,7 @@ module _ (dedb anchor : ℕ) (roots : List Root) (p : DedbPosition) (inserts : L
       seen : (db : Db) → Sees db old.anchors → (d n : ℕ) (x : HeldAnchor) → held_at new.anchors d n ≡ Some x
           → x.is_changed ≡ false → (b : Bool) → (d == dedb && n == anchor) ≡ b → roots_at db d n ≡ x.roots
       seen db sees d n x there stays true same =
-          let its : one ≡ x = some_is one x (sym (itself d n same) ∙ there) in
+          let its : one ≡ x = same_Some one x (sym (itself d n same) ∙ there) in
           absurd (true_false (ap (λ (z : HeldAnchor). z.is_changed) its ∙ stays))
         where
           true_false : true ≡ false → ⊥
@@ -87,8 +83,8 @@ module _ (dedb anchor : ℕ) (roots : List Root) (p : DedbPosition) (inserts : L
       shape : (n : ℕ) (x : HeldAnchor) → held_at new.anchors dedb n ≡ Some x → (b : Bool)
           → (dedb == dedb && n == anchor) ≡ b → is_anchor def n any_ends x.roots ≡ true
       shape n x there true same =
-          let its : one ≡ x = some_is one x (sym (itself dedb n same) ∙ there) in
-          let number = (same_numbers dedb n dedb anchor same).1 in
+          let its : one ≡ x = same_Some one x (sym (itself dedb n same) ∙ there) in
+          let number = (both_numbers dedb n dedb anchor same).1 in
           subst (λ (z : HeldAnchor). is_anchor def n any_ends z.roots ≡ true) its
           (subst (λ k. is_anchor def k any_ends roots ≡ true) (sym number) good)
       shape n x there false other = fits.shapes n x (sym (e.anchors.others dedb n other) ∙ there)
@@ -148,9 +144,6 @@ filter_same_test {X} p q (x ∷ xs) same =
     ap (λ b. if b then x ∷ filter p xs else filter p xs) (same x)
     ∙ ap (λ rest. if q x then x ∷ rest else rest) (filter_same_test p q xs same)
 
-other_number : (a b : ℕ) → (a ≡ b → ⊥) → (a == b) ≡ false
-other_number a b e = grind (arith, nat_tests)
-
 -- below a place that is no root no insert goes with it
 pub none_goes : (def : DedbDef) (dedb : ℕ) (at : Place) (xs : List SeqInsert) → (length at.path ≡ 1 → ⊥)
     → xs ≡ filter (λ i. not (goes_with def dedb at i)) xs
@@ -171,4 +164,4 @@ those_go def dedb at xs anchor key one same same_key =
     ∙ ap (λ k. not (i.dedb == dedb && i.anchor == at.anchor && same_text i.key k)) same_key
     ∙ sym (ap (λ b. not (b && i.dedb == dedb && i.anchor == at.anchor && same_text i.key (root_key_of def dedb
     at.path)))
-    (both (length at.path) 1 one)))
+    (same_number (length at.path) 1 one)))

@@ -34,14 +34,9 @@ use Rattle.dedb_calls.specs.declared.search.Looked.{Looked}
 use Rattle.dedb_calls.specs.declared.search.Looked.TheVariants as looked
 use Rattle.dedb_calls.proofs.SearchLemmas.{found_same, held_roots, unlocked_same}
 use Rattle.dedb_calls.proofs.SeenLemmas.{all_segments, is_there, seen_roots, serves_some}
+use Rattle.plain_laws.proofs.Numbers.{lt_false, lt_true}
 
 -- ---- the anchors of GN with the root's key
-
-lt_true : (a b : ℕ) → a < b → nat_lt a b ≡ true
-lt_true a b less = grind (arith, nat_tests)
-
-lt_false : (a b : ℕ) → b ≤ a → nat_lt a b ≡ false
-lt_false a b more = grind (arith, nat_tests)
 
 pub next_none : (a k at p : ℕ) → a ≡ k → at ≡ p → a < at → [] ≡ (if nat_lt k p then [] else k ∷ [])
 next_none a k at p same there less =

@@ -1,5 +1,5 @@
 -- Replacements and deletions: what they come to, by the segment that is held.
-use Rattle.std.proofs.Common.{◌≡◌, ℕ, zero, suc, ◌<◌, List, [], ◌∷◌, length, Option, Some, None, refl, sym, ◌∙◌, ap, subst, Bool, true, false, not, slice_get, slice_set, unwrap_or}
+use Rattle.std.proofs.Common.{◌≡◌, ℕ, ◌<◌, List, length, Option, Some, None, refl, sym, ◌∙◌, ap, subst, Bool, true, false, not, slice_get, slice_set, unwrap_or}
 use Rattle.std.specs.Prelude.{codes, filter, if◌then◌else◌}
 use Rattle.fp_model.specs.declared.calls.Mode.{Mode}
 use Rattle.fp_model.specs.declared.calls.Mode.TheVariants.{Exclusive}
@@ -11,12 +11,11 @@ use Rattle.fp_model.specs.declared.database.Root.{Root}
 use Rattle.fp_model.specs.declared.definitions.DedbDef.{DedbDef}
 use Rattle.fp_model.specs.Answers.{Needed, Replied, answered, blank}
 use Rattle.fp_model.specs.DedbCalls as dedb
-use Rattle.fp_model.specs.Order.{Deletes, Place, Replaces, Step, edited, is_sequential, key_in}
+use Rattle.fp_model.specs.Order.{Deletes, Place, Replaces, edited, is_sequential, key_in}
 use Rattle.fp_model.specs.Shape.{has_length, is_anchor}
 use Rattle.fp_model.specs.Workspace.{DedbPosition, Workspace, no_dedb_position}
 use Rattle.dli_tree.specs.InOrder.{any_ends}
-use Rattle.state_laws.specs.Edits.{FitsEdit, FitsEnd}
-use Rattle.key_order.proofs.Ascending.{same_is}
+use Rattle.state_laws.specs.Edits.{FitsEdit}
 use Rattle.state_laws.proofs.Roots.{edited_good}
 use Rattle.dedb_calls.specs.Anchors.{Ascend, Sees, held_at}
 use Rattle.dedb_calls.specs.inside.Calls.{is_locked}
@@ -29,21 +28,10 @@ use Rattle.dedb_calls.specs.declared.anchors.HeldAnchor.{HeldAnchor}
 use Rattle.dedb_calls.specs.declared.ready.DedbReady.{DedbReady}
 use Rattle.dedb_calls.specs.declared.ready.DedbReady.TheVariants as ready
 use Rattle.dedb_calls.proofs.EditLemmas.{edited_own}
-use Rattle.dedb_calls.proofs.SeenLemmas.{get_set, is_there, seen_roots, serves_some}
-
--- bytes as long as the last type of a path, with the key there, fit its end
-end_fits : (def : DedbDef) (number : ℕ) (bytes : List ℕ) (path : List Step)
-    → has_length def.segments (dedb.type_of_path def number path) bytes ≡ true
-    → key_in def.segments (dedb.type_of_path def number path) bytes ≡ dedb.key_of_path def number path
-    → FitsEnd def.segments path bytes
-end_fits def number bytes [] long key = tt
-end_fits def number bytes (s ∷ []) long key = (long, key)
-end_fits def number bytes (s ∷ t ∷ ts) long key = end_fits def number bytes (t ∷ ts) long key
-
-set_twice : {X : Type 0} (xs : List X) (n : ℕ) (p q : X) → slice_set (slice_set xs n p) n q ≡ slice_set xs n q
-set_twice [] n p q = refl
-set_twice (x ∷ xs) zero p q = refl
-set_twice (x ∷ xs) (suc n) p q = ap (λ rest. x ∷ rest) (set_twice xs n p q)
+use Rattle.dedb_calls.proofs.SeenLemmas.{is_there, seen_roots, serves_some}
+use Rattle.state_laws.proofs.DedbReplies.{end_fits}
+use Rattle.plain_laws.proofs.Places.{get_set, set_twice}
+use Rattle.model_laws.proofs.Texts.{same_text_is}
 
 -- a place that is held is the place
 pub place_is : (p : DedbPosition) (place : Place) → (if p.held then p.place else None) ≡ Some place
@@ -269,7 +257,7 @@ module _ (def : DedbDef) (number : ℕ) (held : Resource → Option Mode) (work 
         let fits_edit : FitsEdit def place.anchor a.roots place.path (Replaces bytes) = record {
           direct = (fp.begins, fp.direct direct);
           bytes_fit = end_fits def number bytes place.path long
-              (same_is (key_in def.segments (dedb.type_of_path def number place.path) bytes)
+              (same_text_is (key_in def.segments (dedb.type_of_path def number place.path) bytes)
               (dedb.key_of_path def number place.path) key);
           new = tt;
         } in

@@ -31,8 +31,7 @@ use Rattle.dli_tree.specs.Paths.{step_of, steps_of}
 use Rattle.dli_tree.specs.declared.path.Step.{Step as StepOf}
 use Rattle.dli_tree.proofs.Leading.{leads_is}
 use Rattle.state_laws.specs.Edits.{AreDirect as EditDirect, FitsEdit, FitsEnd}
-use Rattle.key_order.proofs.Ascending.{same_is}
-use Rattle.state_laws.proofs.Lists.{all_at, first_true, second_true}
+use Rattle.state_laws.proofs.Lists.{all_at}
 use Rattle.state_laws.proofs.Paths.{ends_fit, insert_direct}
 use Rattle.state_laws.proofs.Roots.{edited_good}
 use Rattle.dedb_calls.specs.Anchors.{Ascend, Sees, held_at}
@@ -47,11 +46,16 @@ use Rattle.dedb_calls.specs.declared.insert.Judged.TheVariants as judged
 use Rattle.dedb_calls.specs.declared.insert.NewSegment.{NewSegment}
 use Rattle.dedb_calls.specs.declared.ready.DedbReady.{DedbReady}
 use Rattle.dedb_calls.specs.declared.ready.DedbReady.TheVariants as ready
-use Rattle.dedb_calls.proofs.AnchorLemmas.{some_is}
 use Rattle.dedb_calls.proofs.RandomizerLemmas.{first_type, root_key_fits}
 use Rattle.dedb_calls.proofs.SearchLemmas.{held_roots}
 use Rattle.dedb_calls.proofs.EditLemmas.{edited_own}
 use Rattle.dedb_calls.proofs.SeenLemmas.{in_order, is_there, let_go_fits, moves, seen_roots, serves_some}
+use Rattle.plain_laws.proofs.Alls.{all_push, all_taken}
+use Rattle.plain_laws.proofs.Truths.{first_of_both, second_of_both}
+use Rattle.model_laws.proofs.Layouts.{key_within}
+use Rattle.plain_laws.proofs.Lists.{map_length}
+use Rattle.model_laws.proofs.Texts.{same_text_is}
+use Rattle.std.proofs.lemmas.Option.{same_Some}
 
 -- ---- lists
 
@@ -68,29 +72,15 @@ take_front (y ∷ ys) x =
     ap (λ n. take n (y ∷ (ys ++ x ∷ []))) (one_less y (ys ++ x ∷ []) (some_end ys x))
     ∙ ap (λ rest. y ∷ rest) (take_front ys x)
 
-all_more : {X : Type 0} (P : X → Type 0) (xs : List X) (x : X) → AllByRecursion P xs → P x
-    → AllByRecursion P (xs ++ x ∷ [])
-all_more P [] x all one = (one, tt)
-all_more P (y ∷ ys) x all one = (all.0, all_more P ys x all.1 one)
-
 take_map : {X Y : Type 0} (f : X → Y) (n : ℕ) (xs : List X) → take n (map f xs) ≡ map f (take n xs)
 take_map f zero xs = refl
 take_map f (suc n) [] = refl
 take_map f (suc n) (x ∷ xs) = ap (λ rest. f x ∷ rest) (take_map f n xs)
 
-map_length : {X Y : Type 0} (f : X → Y) (xs : List X) → length (map f xs) ≡ length xs
-map_length f [] = refl
-map_length f (x ∷ xs) = let later = map_length f xs in omega (arith, later)
-
 all_mapped : {X Y : Type 0} (P : Y → Type 0) (f : X → Y) (xs : List X) → AllByRecursion P (map f xs)
     → AllByRecursion (λ x. P (f x)) xs
 all_mapped P f [] all = tt
 all_mapped P f (x ∷ xs) all = (all.0, all_mapped P f xs all.1)
-
-all_taken : {X : Type 0} (P : X → Type 0) (n : ℕ) (xs : List X) → AllByRecursion P xs → AllByRecursion P (take n xs)
-all_taken P zero xs all = tt
-all_taken P (suc n) [] all = tt
-all_taken P (suc n) (x ∷ xs) all = (all.0, all_taken P n xs all.1)
 
 -- ---- types on a line
 
@@ -124,7 +114,7 @@ module _ (def : DedbDef) (good : IsDedbDef def) where
           → ((p : ℕ) → Direct p → AllByRecursion Direct (line_within n def.segments p))
           → AllByRecursion Direct (option_map_or (λ p. line_within n def.segments p ++ t ∷ []) o (t ∷ []))
       by None is later = (direct, tt)
-      by (Some p) is later = all_more Direct (line_within n def.segments p) t (later p (parent_direct t p is)) direct
+      by (Some p) is later = all_push Direct (line_within n def.segments p) t (later p (parent_direct t p is)) direct
 
   -- all on a line but its end
   front_direct : (n t : ℕ) → AllByRecursion Direct
@@ -152,12 +142,12 @@ module _ (def : DedbDef) (good : IsDedbDef def) where
     type = dedb.type_of_last def number ssas
 
     only : dedb.only_last_unqualified def number ssas ≡ true
-    only = first_true (dedb.only_last_unqualified def number ssas)
+    only = first_of_both (dedb.only_last_unqualified def number ssas)
         (same_text (map (λ (a : Ssa). a.segment) ssas) (line_to def.segments type)) ok
 
     line : map (λ (a : Ssa). a.segment) ssas ≡ line_to def.segments type
-    line = same_is (map (λ (a : Ssa). a.segment) ssas) (line_to def.segments type)
-        (second_true (dedb.only_last_unqualified def number ssas)
+    line = same_text_is (map (λ (a : Ssa). a.segment) ssas) (line_to def.segments type)
+        (second_of_both (dedb.only_last_unqualified def number ssas)
         (same_text (map (λ (a : Ssa). a.segment) ssas) (line_to def.segments type)) ok)
 
     path_types : (list : List Ssa) → map (λ (s : Step). s.segment) (dedb.insert_path def number list bytes)
@@ -253,15 +243,6 @@ parents_lead types def number roots steps same order direct more =
 
 -- ---- root keys of inserts
 
-stands_before_end : (at : ℕ) (fields : List FieldDef) (end : ℕ) → StandFrom at fields end → at ≤ end
-stands_before_end at [] end stand = omega (arith, stand)
-stands_before_end at (f ∷ fs) end stand =
-    let later = stands_before_end (at + f.length) fs end stand.2 in omega (arith, later)
-
-key_within : (fields : List FieldDef) (end : ℕ) → StandFrom 0 fields end → key_length fields ≤ end
-key_within [] end stand = omega arith
-key_within (f ∷ fs) end stand = let later = stands_before_end (0 + f.length) fs end stand.2 in omega (arith, later)
-
 -- the key of a whole segment
 key_long : (types : List SegDef) (d : SegDef) (type : ℕ) (bytes : List ℕ) → slice_get types type ≡ Some d
     → StandFrom 0 d.fields d.length → has_length types type bytes ≡ true
@@ -289,9 +270,9 @@ insert_key_fits def number (a ∷ rest) bytes root good ok fit long at =
     let bounds = root_key_fits def its.def good first in
     let type = first_type def its.def good first in
     let n : length root.key ≡ key_length its.def.fields =
-    ap (λ (s : Step). length s.key) (sym (some_is _ root at))
+    ap (λ (s : Step). length s.key) (sym (same_Some _ root at))
     ∙ by its rest a.key refl type.1 type.0
-    (first_true (dedb.only_last_unqualified def number (a ∷ rest))
+    (first_of_both (dedb.only_last_unqualified def number (a ∷ rest))
     (same_text (map (λ (b : Ssa). b.segment) (a ∷ rest))
     (line_to def.segments (dedb.type_of_last def number (a ∷ rest)))) ok) long in
     (omega (arith, bounds.0, n), omega (arith, bounds.1, n))
@@ -312,7 +293,7 @@ insert_key_fits def number (a ∷ rest) bytes root good ok fit long at =
         ap (λ k. length (unwrap_or k (key_in def.segments a.segment bytes))) is
         ∙ key_long def.segments its.def a.segment bytes its.named stand long2
     by its (b ∷ more) None is direct stand only long2 =
-        absurd (not_qualified (sym (first_true (dedb.is_qualified a) (dedb.only_last_unqualified def number (b ∷ more))
+        absurd (not_qualified (sym (first_of_both (dedb.is_qualified a) (dedb.only_last_unqualified def number (b ∷ more))
         only) ∙ ap is_some is))
       where
         not_qualified : true ≡ false → ⊥
@@ -391,7 +372,7 @@ module _ (def : DedbDef) (good : IsDedbDef def) (number : ℕ) (held : Resource 
       let long : length steps ≡ length ssas =
       ap length its.insert.path_is
       ∙ map_length (λ (a : Ssa). direct a.segment (unwrap_or a.key (key_in def.segments a.segment new.bytes))) ssas in
-      let some = few ssas (first_true (dedb.only_last_unqualified def number ssas)
+      let some = few ssas (first_of_both (dedb.only_last_unqualified def number ssas)
       (same_text (map (λ (b : Ssa). b.segment) ssas) (line_to def.segments (dedb.type_of_last def number ssas)))
       its.insert.arguments) in
       omega (arith, long, some)
@@ -650,7 +631,7 @@ module _ (def : DedbDef) (good : IsDedbDef def) (number : ℕ) (held : Resource 
       → is_anchor def new.anchor any_ends (edited def.segments a.roots steps (Inserts new.bytes)) ≡ true
   free_shape a at free =
       let only : dedb.only_last_unqualified def number ssas ≡ true =
-      first_true (dedb.only_last_unqualified def number ssas)
+      first_of_both (dedb.only_last_unqualified def number ssas)
       (same_text (map (λ (b : Ssa). b.segment) ssas) (line_to def.segments (dedb.type_of_last def number ssas)))
       its.insert.arguments in
       let mine = held_roots work.anchors number new.anchor a a.roots at refl in

@@ -1,6 +1,6 @@
 -- Searches: what is looked for at one anchor, and anchors in turn.
 use Rattle.std.proofs.Common.{◌≡◌, ℕ, suc, ◌+◌, ◌-◌, ◌<◌, List, [], ◌∷◌, Some, None, refl, sym, ◌∙◌, ap, Bool, true, false, ◌&&◌, ◌==◌, Option, arith}
-use Rattle.std.specs.Prelude.{find, nat_lt, if◌then◌else◌, is_some, option_map, IfOk, Result, Ok, Err}
+use Rattle.std.specs.Prelude.{nat_lt, if◌then◌else◌, is_some, option_map}
 use Rattle.std.specs.Option.{option_map_or}
 use Rattle.fp_model.specs.declared.calls.Ssa.{Ssa}
 use Rattle.fp_model.specs.declared.database.Root.{Root}
@@ -15,25 +15,12 @@ use Rattle.dedb_calls.specs.Anchors.{held_at}
 use Rattle.dedb_calls.specs.inside.Progress.{roots_in}
 use Rattle.dedb_calls.specs.declared.anchors.HeldAnchor.{HeldAnchor}
 use Rattle.dedb_calls.specs.inside.Searches.{behind_here, within_here}
+use Rattle.plain_laws.proofs.Alls.{find_alike, find_none}
 
 not_both : true ≡ false → ⊥
 not_both e = cc
 
-pub if_ok : {A E : Type 0} {P Q : A → Type 0} (r : Result A E) → IfOk r P → ((a : A) → P a → Q a) → IfOk r Q
-if_ok (Ok a) p f = f a p
-if_ok (Err e) p f = tt
-
 -- ---- tests that agree
-
-find_same : {X : Type 0} (p q : X → Bool) (xs : List X) → ((x : X) → p x ≡ q x) → find p xs ≡ find q xs
-find_same p q [] same = refl
-find_same {X} p q (x ∷ xs) same =
-    ap (λ b. if b then Some x else find p xs) (same x) ∙ ap (λ rest. if q x then Some x else rest) (find_same p q xs
-    same)
-
-find_none : {X : Type 0} (p : X → Bool) (xs : List X) → ((x : X) → p x ≡ false) → find p xs ≡ None
-find_none p [] never = refl
-find_none {X} p (x ∷ xs) never = ap (λ b. if b then Some x else find p xs) (never x) ∙ find_none p xs never
 
 -- ---- one anchor
 
@@ -111,7 +98,7 @@ module _ (anchor : ℕ) where
     looked_here : (b w : Option (List Step)) → behind_here behind anchor ≡ Some b → within_here within anchor ≡ Some w
         → first_admitted types 0 roots (option_map at_zero b) (option_map at_zero w) ssas
         ≡ first_admitted types anchor roots behind within ssas
-    looked_here b w e f = find_same _ _ (sequence types roots)
+    looked_here b w e f = find_alike _ _ (sequence types roots)
         (λ s. ap (λ t. t && is_within 0 (option_map at_zero w) s && admits ssas s.path) (behind_same behind b e s)
         ∙ ap (λ t. is_behind anchor behind s && t && admits ssas s.path) (within_same within w f s))
 

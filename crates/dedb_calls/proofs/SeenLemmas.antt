@@ -28,14 +28,17 @@ use Rattle.dedb_calls.specs.Readiness.{IfAnswer, OnNeed}
 use Rattle.dedb_calls.specs.declared.anchors.HeldAnchor.{HeldAnchor}
 use Rattle.dedb_calls.specs.declared.ready.DedbReady.{DedbReady}
 use Rattle.dedb_calls.specs.declared.ready.DedbReady.TheVariants as ready
-use Rattle.dedb_calls.proofs.AnchorLemmas.{IsAfter, after_differs, same_numbers, some_is}
+use Rattle.dedb_calls.proofs.AnchorLemmas.{IsAfter, after_differs}
+use Rattle.plain_laws.proofs.Places.{get_other, get_set, length_set}
+use Rattle.plain_laws.proofs.Numbers.{both_numbers}
+use Rattle.std.proofs.lemmas.Option.{same_Some}
 
 -- ---- roots
 
 module _ (def : DedbDef) (dedb anchor : ℕ) where
   not_after : (x y : HeldAnchor) → is_anchor_of dedb anchor x ≡ true → IsAfter x y → is_anchor_of dedb anchor y ≡ false
   not_after x y its after =
-      let names = same_numbers x.dedb x.anchor dedb anchor its in
+      let names = both_numbers x.dedb x.anchor dedb anchor its in
       ap (λ k. y.dedb == k && y.anchor == anchor) (sym names.0)
       ∙ ap (λ k. y.dedb == x.dedb && y.anchor == k) (sym names.1)
       ∙ after_differs x.dedb x.anchor y.dedb y.anchor after
@@ -63,9 +66,9 @@ module _ (def : DedbDef) (dedb anchor : ℕ) where
           → (t : Bool) → x.is_changed ≡ t
           → option_map_or (λ c. c.roots) (find (is_change_of def dedb anchor)
           (if t then change_of x ∷ changes_in xs else changes_in xs)) roots ≡ a.roots
-      by true its found later true kind = rw its (ap (λ (z : HeldAnchor). z.roots) (some_is x a found))
+      by true its found later true kind = rw its (ap (λ (z : HeldAnchor). z.roots) (same_Some x a found))
       by true its found later false kind =
-          let same : x ≡ a = some_is x a found in
+          let same : x ≡ a = same_Some x a found in
           rw (none_changed x xs its up.0) (stay (ap (λ (z : HeldAnchor). z.is_changed) (sym same) ∙ kind))
       by false its found later true kind = rw its (later found stay)
       by false its found later false kind = later found stay
@@ -111,24 +114,6 @@ all_segments def dedb work anchor fits = by (held_at work.anchors dedb anchor) r
     by (Some a) e = anchor_shows def dedb anchor any_ends a.roots (fits.shapes anchor a e)
 
 -- ---- positions
-
-pub length_set : {X : Type 0} (xs : List X) (n : ℕ) (p : X) → length (slice_set xs n p) ≡ length xs
-length_set [] n p = refl
-length_set (x ∷ xs) zero p = refl
-length_set (x ∷ xs) (suc n) p = let later = length_set xs n p in omega (arith, later)
-
-pub get_set : {X : Type 0} (xs : List X) (n : ℕ) (p : X) → n < length xs → slice_get (slice_set xs n p) n ≡ Some p
-get_set [] n p less = absurd (omega (arith, less))
-get_set (x ∷ xs) zero p less = refl
-get_set (x ∷ xs) (suc n) p less = get_set xs n p (omega (arith, less))
-
-pub get_other : {X : Type 0} (xs : List X) (n d : ℕ) (p : X) → (d ≡ n → ⊥) → slice_get (slice_set xs n p) d ≡ slice_get
-    xs d
-get_other [] n d p other = refl
-get_other (x ∷ xs) zero zero p other = absurd (other refl)
-get_other (x ∷ xs) zero (suc d) p other = refl
-get_other (x ∷ xs) (suc n) zero p other = refl
-get_other (x ∷ xs) (suc n) (suc d) p other = get_other xs n d p (λ e. other (ap suc e))
 
 pub differ : (d n : ℕ) → (d == n) ≡ false → d ≡ n → ⊥
 differ d n e same = grind (arith, nat_tests)
@@ -189,7 +174,7 @@ needs_nothing came answer P is = subst (λ r. OnNeed r P) (sym is) tt
 pub option_is : {A : Type 0} (f : A → ℕ) (o : Option A) (n : ℕ) → Some n ≡ option_map f o
     → (a : A) × (o ≡ Some a) × (n ≡ f a)
 option_is f None n e = absurd (cc)
-option_is f (Some a) n e = (a, refl, some_is n (f a) e)
+option_is f (Some a) n e = (a, refl, same_Some n (f a) e)
 
 pub option_none : {A : Type 0} (f : A → ℕ) (o : Option A) → None ≡ option_map f o → o ≡ None
 option_none f None e = refl

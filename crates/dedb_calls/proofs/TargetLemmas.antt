@@ -1,5 +1,5 @@
 -- Which database a call names.
-use Rattle.std.proofs.Common.{◌≡◌, refl, ap, sym, ◌∙◌, subst, arith, ℕ, zero, suc, ◌-◌, ◌<◌, ◌≤◌, List, [], ◌∷◌, length, false, Option, Some, None, slice_get}
+use Rattle.std.proofs.Common.{◌≡◌, refl, ap, sym, ◌∙◌, subst, arith, ℕ, ◌-◌, ◌<◌, ◌≤◌, length, false, Option, Some, None, slice_get}
 use Rattle.std.specs.Option.{option_map_or}
 use Rattle.fp_model.specs.declared.calls.Call.{Call}
 use Rattle.fp_model.specs.declared.calls.Mode.{Mode}
@@ -11,24 +11,10 @@ use Rattle.fp_model.specs.declared.definitions.MsdbDef.{MsdbDef}
 use Rattle.fp_model.specs.Calls.{Target, OnMsdb, OnDedb, Nowhere, database_of, dedb_target, looks_on, looks_unheld, need_of, need_on, reply_on, reply_to, target_of}
 use Rattle.fp_model.specs.DedbCalls.{dedb_need, dedb_reply}
 use Rattle.fp_model.specs.Workspace.{Workspace}
-use Rattle.dedb_calls.proofs.AnchorLemmas.{some_is}
+use Rattle.plain_laws.proofs.Places.{get_there}
+use Rattle.std.proofs.lemmas.Option.{same_Some, slice_get_past}
 
 -- ---- places in lists
-
-pub at_within : {A : Type 0} (xs : List A) (n : ℕ) → n < length xs → (x : A) × (slice_get xs n ≡ Some x)
-at_within [] n less = absurd (omega arith)
-at_within (x ∷ xs) zero less = (x, refl)
-at_within (x ∷ xs) (suc n) less = at_within xs n (omega arith)
-
-pub none_beyond : {A : Type 0} (xs : List A) (n : ℕ) → length xs ≤ n → slice_get xs n ≡ None
-none_beyond [] n beyond = refl
-none_beyond (x ∷ xs) zero beyond = absurd (omega arith)
-none_beyond (x ∷ xs) (suc n) beyond = none_beyond xs n (omega arith)
-
-pub within_at : {A : Type 0} (xs : List A) (n : ℕ) (x : A) → slice_get xs n ≡ Some x → n < length xs
-within_at [] n x at = absurd (cc)
-within_at (y ∷ ys) zero x at = omega arith
-within_at (y ∷ ys) (suc n) x at = let later = within_at ys n x at in omega (arith, later)
 
 -- ---- targets
 
@@ -45,7 +31,7 @@ pub behind_msdbs : (defs : Defs) (n : ℕ) → length defs.msdbs ≤ n
 behind_msdbs defs n beyond =
     ap (λ (found : Option MsdbDef). option_map_or (λ one. OnMsdb one n) found (dedb_target defs (n - length
     defs.msdbs)))
-    (none_beyond defs.msdbs n beyond)
+    (slice_get_past defs.msdbs n beyond)
 
 dedb_at : (defs : Defs) (dedb : ℕ) (def : DedbDef) → slice_get defs.dedbs dedb ≡ Some def
     → dedb_target defs dedb ≡ OnDedb def dedb
@@ -97,7 +83,7 @@ module _ (defs : Defs) (c : Call) (P : Target → Type 0) (nowhere : P Nowhere �
       → (def : MsdbDef) × (slice_get defs.msdbs (database_of c) ≡ Some def) × P (OnMsdb def (database_of c))
   named_msdb n at count named placed counted below =
       let number : at ≡ database_of c = placed ∙ named in
-      let found = at_within defs.msdbs (database_of c) (omega (arith, number, counted, below)) in
+      let found = get_there defs.msdbs (database_of c) (omega (arith, number, counted, below)) in
       (found.0, found.1, subst P (on_msdb defs (database_of c) found.0 found.1) fits)
 
 module _ (defs : Defs) (c : Call) (dedb : ℕ) (it : NamesDedb defs c dedb) where
@@ -119,4 +105,4 @@ module _ (defs : Defs) (c : Call) (dedb : ℕ) (it : NamesDedb defs c dedb) wher
   pub dedb_has : (P : Target → Type 0) → P (target_of defs (database_of c)) → (def : DedbDef)
       → slice_get defs.dedbs dedb ≡ Some def → P (OnDedb def dedb)
   dedb_has P p def there =
-      subst (λ (one : DedbDef). P (OnDedb one dedb)) (some_is it.def def (sym it.there ∙ there)) (subst P it.target p)
+      subst (λ (one : DedbDef). P (OnDedb one dedb)) (same_Some it.def def (sym it.there ∙ there)) (subst P it.target p)

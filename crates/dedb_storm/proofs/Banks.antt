@@ -27,6 +27,8 @@ use Rattle.dli_calls.specs.Progress.{IsWorkOf, Progress, dedbs_in}
 use Rattle.dli_calls.specs.Targets.{FitsWork, IfDedb, LeavesOthers}
 use Rattle.dedb_calls.proofs.TargetLemmas.{on_dedb}
 use Rattle.dedb_storm.specs.Bank.{AreFree, AreKept, IsGoing, IsKept, KeepsOthers, StartsAt}
+use Rattle.plain_laws.proofs.Alls.{all_append, all_taken}
+use Rattle.plain_laws.proofs.Numbers.{both_same, not_flipped}
 
 -- ---- as it begins
 
@@ -54,9 +56,6 @@ begins defs region work locks of none some within starts = record {
 
 -- ---- what other regions hold
 
-not_this : (other region : ℕ) → (other == region) ≡ false → (region == other) ≡ false
-not_this other region differs = grind (arith, nat_tests)
-
 nor_its : (n other region : ℕ) → (n == region) ≡ true → (other == region) ≡ false → (n == other) ≡ false
 nor_its n other region its differs = grind (arith, nat_tests)
 
@@ -69,9 +68,9 @@ other_gained : (o : Option Mode) (wanted : Lock) (locks : List Lock) (other : �
     → (other == wanted.region) ≡ false
     → held_as (gained_over o wanted locks) other resource ≡ held_as locks other resource
 other_gained None wanted locks other resource differs =
-    passed wanted locks other resource (not_this other wanted.region differs)
+    passed wanted locks other resource (not_flipped other wanted.region differs)
 other_gained (Some Share) wanted locks other resource differs =
-    passed wanted locks other resource (not_this other wanted.region differs)
+    passed wanted locks other resource (not_flipped other wanted.region differs)
 other_gained (Some Exclusive) wanted locks other resource differs = refl
 
 other_after : (g : Grant) (wanted : Lock) (locks : List Lock) (other : ℕ) (resource : Resource)
@@ -176,14 +175,6 @@ module _ (defs : Defs) (c : Call) (def : DedbDef) (there : slice_get defs.dedbs 
 
 -- ---- what a commit leaves
 
-pub all_append : {X : Type 0} (P : X → Type 0) (xs ys : List X) → AllByRecursion P xs → AllByRecursion P ys
-    → AllByRecursion P (xs ++ ys)
-all_append P [] ys all more = more
-all_append P (x ∷ xs) ys all more = (all.0, all_append P xs ys all.1 more)
-
-same_itself : (a b : ℕ) → (a == a && b == b) ≡ true
-same_itself a b = grind (arith, nat_tests)
-
 -- each anchor is found among those that ascend
 found_behind : (x : HeldAnchor) (ys xs : List HeldAnchor)
     → AllByRecursion (λ b. stands_before b.dedb b.anchor x ≡ true) ys
@@ -198,7 +189,7 @@ found_behind x (y ∷ ys) xs before found =
 found_each : (xs : List HeldAnchor) → Ascend xs → AllByRecursion (λ a. held_at xs a.dedb a.anchor ≡ Some a) xs
 found_each [] up = tt
 found_each (x ∷ xs) up =
-    (rw (same_itself x.dedb x.anchor) refl, found_behind x xs xs up.0 (found_each xs up.1))
+    (rw (both_same x.dedb x.anchor) refl, found_behind x xs xs up.0 (found_each xs up.1))
 
 changes_kept : (dedbs : List DedbDef) (xs ys : List HeldAnchor)
     → AllByRecursion (λ a. held_at ys a.dedb a.anchor ≡ Some a) xs
@@ -220,11 +211,6 @@ left_kept defs work kept of before =
     (changes_kept defs.dedbs work.anchors work.anchors (found_each work.anchors of.dedbs.order)
     (λ a found def there. (of.dedbs.each a.dedb def there).shapes a.anchor a found)))
     before
-
-all_taken : {X : Type 0} (P : X → Type 0) (n : ℕ) (xs : List X) → AllByRecursion P xs → AllByRecursion P (take n xs)
-all_taken P zero xs all = tt
-all_taken P (suc n) [] all = tt
-all_taken P (suc n) (x ∷ xs) all = (all.0, all_taken P n xs all.1)
 
 -- those behind the first
 pub kept_behind : (dedbs : List DedbDef) (n : ℕ) (kept : List AnchorChange) → AreKept dedbs kept

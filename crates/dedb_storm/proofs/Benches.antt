@@ -40,9 +40,6 @@ all_at P [] n x all at = absurd (cc)
 all_at P (y ∷ ys) zero x all at = let same : y ≡ x = cc in subst P same all.0
 all_at P (y ∷ ys) (suc n) x all at = all_at P ys n x all.1 at
 
-pub some_is : {A : Type 0} (x y : A) → Some x ≡ Some y → x ≡ y
-some_is x y e = cc
-
 pub none_held : {A B : Type 0} (f : A → B) (o : Option A) (a : A) → None ≡ option_map f o → o ≡ Some a → ⊥
 none_held f None a e at = cc
 none_held f (Some b) a e at = cc

@@ -1,6 +1,6 @@
 -- Sequential dependents at a root of an anchor: one more in front, or the oldest gone.
-use Rattle.std.proofs.Common.{◌≡◌, ◌∙◌, ◌++◌, ◌∷◌, ℕ, zero, suc, ◌^◌, ◌<◌, List, [], map, Some, None, refl, sym, ap, subst, Bool, true, false, ◌&&◌, nat_le, nat_lt, slice_get, slice_set, arith}
-use Rattle.std.specs.List.{AllByRecursion, list_all}
+use Rattle.std.proofs.Common.{◌≡◌, ◌∙◌, ◌++◌, ◌∷◌, ℕ, ◌^◌, ◌<◌, List, [], Some, None, refl, ap, subst, Bool, true, false, ◌&&◌, nat_le, nat_lt, slice_get, slice_set, arith}
+use Rattle.std.specs.List.{list_all}
 use Rattle.std.specs.Option.{option_map_or}
 use Rattle.fp_model.specs.declared.database.AreaEnds.{AreaEnds}
 use Rattle.fp_model.specs.declared.database.Root.{Root}
@@ -12,24 +12,15 @@ use Rattle.fp_model.specs.Order.{root_key, sequential_type}
 use Rattle.fp_model.specs.Shape.{are_newest_first, has_length, have_lengths, is_anchor}
 use Rattle.fp_model.specs.State.{ascend}
 use Rattle.dli_tree.specs.InOrder.{any_ends}
-use Rattle.state_laws.proofs.Lists.{all_at, both_true, first_true, none_is_not_some, second_true, some_is}
-use Rattle.state_laws.proofs.Purging.{is_le, is_lt, lt_is}
+use Rattle.state_laws.proofs.Lists.{all_at}
 use Rattle.state_laws.proofs.Roots.{from_good, of_parts, passes, to_good, whole}
+use Rattle.plain_laws.proofs.Alls.{all_set}
+use Rattle.std.proofs.lemmas.Bool.{and_from}
+use Rattle.plain_laws.proofs.Truths.{first_of_both, second_of_both}
+use Rattle.plain_laws.proofs.Numbers.{is_le, lt_true}
+use Rattle.plain_laws.proofs.Places.{keys_set}
 
 -- ---- one root in place of another
-
-all_set : {X : Type 0} (P : X → Type 0) (xs : List X) (n : ℕ) (y : X) → AllByRecursion P xs → P y
-    → AllByRecursion P (slice_set xs n y)
-all_set P [] n y all one = tt
-all_set P (x ∷ xs) zero y all one = (one, all.1)
-all_set P (x ∷ xs) (suc n) y all one = (all.0, all_set P xs n y all.1 one)
-
-keys_set : {X : Type 0} (key : X → List ℕ) (xs : List X) (n : ℕ) (x y : X) → slice_get xs n ≡ Some x → key y ≡ key x
-    → map key (slice_set xs n y) ≡ map key xs
-keys_set key [] n x y at same = refl
-keys_set key (z ∷ xs) zero x y at same =
-    ap (λ k. k ∷ map key xs) (same ∙ ap key (sym (some_is z x at)))
-keys_set key (z ∷ xs) (suc n) x y at same = ap (λ ks. key z ∷ ks) (keys_set key xs n x y at same)
 
 module _ (def : DedbDef) (anchor : ℕ) where
   -- one of the same key that passes as the one before did
@@ -57,11 +48,11 @@ module _ (def : DedbDef) (anchor : ℕ) where
       of_parts def anchor any_ends (with_newest item root) (record {
         long = k.long;
         rows = k.rows;
-        newest = both_true (nat_le 0 item.serial && nat_lt item.serial (2 ^ 64))
+        newest = and_from (nat_le 0 item.serial && nat_lt item.serial (2 ^ 64))
             (are_newest_first 0 item.serial root.seqs)
-            (both_true (nat_le 0 item.serial) (nat_lt item.serial (2 ^ 64)) (is_le 0 item.serial (omega arith))
-            (is_lt item.serial (2 ^ 64) less)) (newer k.newest);
-        lengths = both_true
+            (and_from (nat_le 0 item.serial) (nat_lt item.serial (2 ^ 64)) (is_le 0 item.serial (omega arith))
+            (lt_true item.serial (2 ^ 64) less)) (newer k.newest);
+        lengths = and_from
             (option_map_or (λ type. has_length def.segments type item.bytes) (sequential_type def.segments) false)
             (have_lengths def.segments root.seqs) long k.lengths;
         here = k.here;
@@ -74,17 +65,17 @@ module _ (def : DedbDef) (anchor : ℕ) where
   newest_front begin end [] gone e = refl
   newest_front begin end (item ∷ items) gone e =
       let front : Bool = nat_le begin item.serial && nat_lt item.serial end in
-      both_true front (are_newest_first begin item.serial items)
-      (first_true front (are_newest_first begin item.serial (items ++ gone)) e)
+      and_from front (are_newest_first begin item.serial items)
+      (first_of_both front (are_newest_first begin item.serial (items ++ gone)) e)
       (newest_front begin item.serial items gone
-      (second_true front (are_newest_first begin item.serial (items ++ gone)) e))
+      (second_of_both front (are_newest_first begin item.serial (items ++ gone)) e))
 
   all_front : (p : SeqItem → Bool) (items gone : List SeqItem) → list_all p (items ++ gone) ≡ true
       → list_all p items ≡ true
   all_front p [] gone e = refl
   all_front p (item ∷ items) gone e =
-      both_true (p item) (list_all p items) (first_true (p item) (list_all p (items ++ gone)) e)
-      (all_front p items gone (second_true (p item) (list_all p (items ++ gone)) e))
+      and_from (p item) (list_all p items) (first_of_both (p item) (list_all p (items ++ gone)) e)
+      (all_front p items gone (second_of_both (p item) (list_all p (items ++ gone)) e))
 
   pub passes_without : (root : Root) (gone : List SeqItem)
       → passes def anchor any_ends (record root { seqs = root.seqs ++ gone }) ≡ true
@@ -105,7 +96,7 @@ module _ (def : DedbDef) (anchor : ℕ) where
 pub newer_head : (head : SeqItem) (others : List SeqItem) (serial : ℕ) → head.serial < serial
     → are_newest_first 0 (2 ^ 64) (head ∷ others) ≡ true → are_newest_first 0 serial (head ∷ others) ≡ true
 newer_head head others serial less e =
-    both_true (nat_le 0 head.serial && nat_lt head.serial serial) (are_newest_first 0 head.serial others)
-    (both_true (nat_le 0 head.serial) (nat_lt head.serial serial) (is_le 0 head.serial (omega arith))
-    (is_lt head.serial serial less))
-    (second_true (nat_le 0 head.serial && nat_lt head.serial (2 ^ 64)) (are_newest_first 0 head.serial others) e)
+    and_from (nat_le 0 head.serial && nat_lt head.serial serial) (are_newest_first 0 head.serial others)
+    (and_from (nat_le 0 head.serial) (nat_lt head.serial serial) (is_le 0 head.serial (omega arith))
+    (lt_true head.serial serial less))
+    (second_of_both (nat_le 0 head.serial && nat_lt head.serial (2 ^ 64)) (are_newest_first 0 head.serial others) e)

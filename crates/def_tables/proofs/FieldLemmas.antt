@@ -10,7 +10,9 @@ use Rattle.fp_model.specs.WellFormed.{is_field_length}
 use Rattle.def_tables.specs.Values.{each, as_field_name, as_kind, length_for, as_length, triple_in, as_triple, as_triples}
 use Rattle.def_tables.specs.inside.Fields.{IsShort}
 use Rattle.def_tables.specs.declared.fields.Triple.{Triple}
-use Rattle.def_tables.proofs.ValueSteps.{some_step, each_has}
+use Rattle.def_tables.proofs.ValueSteps.{each_has}
+use Rattle.std.proofs.lemmas.Option.{cond_some}
+use Rattle.model_laws.proofs.Texts.{some_step}
 
 -- values that aren't three are no field
 pub triple_below : (items : List Data) → length items < 3 → triple_in (items_of items) ≡ None
@@ -32,12 +34,8 @@ triple_above (a ∷ b ∷ c ∷ d ∷ rest) many = refl
 abbrev pub Fits : Triple → Type 0
 Fits t = is_field_length t.kind t.length ≡ true
 
-from_test : {A : Type 0} (b : Bool) (x y : A) → cond b (Some x) None ≡ Some y → (b ≡ true) × (x ≡ y)
-from_test true x y e = (refl, cc)
-from_test false x y e = absurd (cc)
-
 length_fits : (kind : FieldKind) (z : ℤ) (n : ℕ) → length_for kind z ≡ Some n → is_field_length kind n ≡ true
-length_fits kind (pos m) n e = let h = from_test (is_field_length kind m) m n e in
+length_fits kind (pos m) n e = let h = cond_some (is_field_length kind m) m n e in
     subst (λ (k : ℕ). is_field_length kind k ≡ true) h.1 h.0
 length_fits kind (negsuc m) n e = absurd (cc)
 

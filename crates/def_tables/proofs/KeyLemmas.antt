@@ -20,7 +20,7 @@ pub unknown_key-members_view : (form : Form) (es : List Entry)
 unknown_key-members_view form [] = refl
 unknown_key-members_view form (e ∷ es) = rw (unknown_key-members_view form es)
 
-from_test : (b : Bool) (n m : ℕ) (fault : DefsFault) → cond b (Ok n) (Err fault) ≡ Ok m → (b ≡ true) × (n ≡ m)
+pub from_test : (b : Bool) (n m : ℕ) (fault : DefsFault) → cond b (Ok n) (Err fault) ≡ Ok m → (b ≡ true) × (n ≡ m)
 from_test true n m fault e = (refl, cc)
 from_test false n m fault e = absurd (cc)
 

@@ -1,6 +1,5 @@
 pub mod KeyLemmas
 pub mod Loops
-pub mod TrimLemmas
 pub mod Steps
 pub mod ValueSteps
 pub mod FieldLemmas

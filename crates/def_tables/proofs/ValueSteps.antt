@@ -1,15 +1,10 @@
 -- What each step of reading a value gave, where the whole has one.
-use Rattle.std.proofs.Common.{◌≡◌, List, [], ◌∷◌, Option, Some, None, refl, subst}
+use Rattle.std.proofs.Common.{◌≡◌, List, [], ◌∷◌, Option, Some, subst}
 use Rattle.std.specs.List.{AllByRecursion}
 use Rattle.toml.specs.Data.{Data, Items, no_items, item}
 use Rattle.def_tables.specs.Values.{each}
 use Rattle.fp_model.specs.Values.{◌>>=◌}
-
--- an optional step
-pub some_step : {A B : Type 0} (o : Option A) (step : A → Option B) (y : B) → (o >>= step) ≡ Some y → (x : A)
-    × (o ≡ Some x) × (step x ≡ Some y)
-some_step None step y e = absurd (cc)
-some_step (Some x) step y e = (x, refl, e)
+use Rattle.model_laws.proofs.Texts.{some_step}
 
 -- each element has what every value of its kind has
 pub each_has : {A : Type 0} (what : Data → Option A) (P : A → Type 0) → ((d : Data) (x : A) → what d ≡ Some x → P x)

@@ -1,8 +1,8 @@
 -- A reading is a value, or the first fault: steps one after another, of which the first that has a fault ends it.
-use Rattle.std.specs.Prelude.{◌≡◌, ◌≢◌, List, [], ◌∷◌, ◌++◌, Option, Some, None, Result, Ok, Err}
+use Rattle.std.specs.Prelude.{List, [], ◌∷◌, ◌++◌, Option, Some, None, Result, Ok, Err}
 use Rattle.def_tables.specs.declared.fault.DefsFault.{DefsFault}
 use Rattle.def_tables.specs.declared.fault.DefsFault.TheVariants.{Memory}
-use Rattle.fp_model.specs.Readings.{◌>>=◌}
+use Rattle.fp_model.specs.Readings.{◌>>=◌, GivesBut}
 
 -- the value, or this fault where there is none
 abbrev pub or_fault : {A : Type 0} → DefsFault → Option A → Result A DefsFault
@@ -18,5 +18,4 @@ in_turn read before (x ∷ xs) = do
 
 -- What a function returned, seen by a view, is the reading, unless memory ran out.
 abbrev pub Gives : {X Y : Type 0} → (X → Y) → Result X DefsFault → Result Y DefsFault → Type 0
-Gives view (Ok x) reading = reading ≡ Ok (view x)
-Gives view (Err fault) reading = fault ≢ Memory → reading ≡ Err fault
+Gives view result reading = GivesBut Memory view result reading

@@ -13,7 +13,7 @@ use Rattle.fp_model.specs.Waiting.{Lock, held_as, same_resource}
 use Rattle.dedb_calls.specs.Anchors.{held_at}
 use Rattle.dedb_calls.specs.Progress.{Knows}
 use Rattle.dedb_calls.specs.declared.anchors.HeldAnchor.{HeldAnchor}
-use Rattle.dedb_calls.proofs.AnchorLemmas.{same_numbers}
+use Rattle.plain_laws.proofs.Numbers.{both_numbers}
 
 -- what is held behind a request was asked for, or was held
 held_with : (wanted : Lock) (locks : List Lock) (region : ℕ) (resource : Resource)
@@ -57,7 +57,7 @@ knows_more s s2 g locks requests requests2 region dedb anchor mode old new shows
   where
     by : (b : Bool) → (d == dedb && a == anchor) ≡ b → is_some (held_at new d a) ≡ true
     by true same =
-        let names = same_numbers d a dedb anchor same in
+        let names = both_numbers d a dedb anchor same in
         ap (λ k. is_some (held_at new k a)) names.0 ∙ ap (λ k. is_some (held_at new dedb k)) names.1 ∙ has
     by false other =
         ap is_some (others d a other)

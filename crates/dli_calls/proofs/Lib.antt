@@ -1,5 +1,4 @@
 pub mod AnswerLemmas
-pub mod FitLemmas
 pub mod BeginLemmas
 pub mod ReadyLemmas
 pub mod StoreLemmas

@@ -11,6 +11,7 @@ use Rattle.fp_model.specs.State.{segment_after, segment_of}
 use Rattle.msdb_store.specs.Store.{found, found_after}
 use Rattle.dli_calls.specs.declared.database.Database.{Database}
 use Rattle.dli_calls.specs.inside.Replies.{IsDatabase, segments_in}
+use Rattle.plain_laws.proofs.Options.{shown_has}
 
 -- a database of the store
 record Stands (msdbs : List Msdb) (n : ℕ) (def : MsdbDef) : Type 0 where
@@ -50,12 +51,6 @@ found_has {X} P p (y ∷ ys) x each found = by (p y) found (λ later. found_has 
 first_has : {X : Type 0} (P : X → Type 0) (xs : List X) (x : X) → AllByRecursion P xs → slice_get xs 0 ≡ Some x → P x
 first_has P [] x each at = absurd (cc)
 first_has P (y ∷ ys) x each at = let same : y ≡ x = cc in subst P same each.0
-
--- a segment that is shown
-shown_has : (n : ℕ) (o : Option (Bor (List ℕ))) (found : Option (List ℕ)) → option_copied o ≡ found
-    → ((s : List ℕ) → found ≡ Some s → length s ≡ n) → IfSome o (λ s. length s.now ≡ n)
-shown_has n None found is has = tt
-shown_has n (Some s) found is has = has s.now (sym is)
 
 module _ (d : Database) (is : IsDatabase d) where
   pub looked_whole : (o : Option (Bor (List ℕ))) (key : List ℕ)

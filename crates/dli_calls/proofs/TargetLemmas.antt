@@ -1,5 +1,5 @@
 -- Which database a call names, and what is so of it.
-use Rattle.std.proofs.Common.{◌≡◌, refl, ap, sym, ◌∙◌, subst, arith, ℕ, zero, suc, ◌+◌, ◌-◌, ◌≤◌, List, [], ◌∷◌, length, Option, Some, None, slice_get}
+use Rattle.std.proofs.Common.{◌≡◌, refl, ap, sym, ◌∙◌, subst, arith, ℕ, ◌+◌, ◌-◌, ◌≤◌, length, Option, Some, None, slice_get}
 use Rattle.std.specs.Option.{option_map_or}
 use Rattle.fp_model.specs.declared.calls.Call.{Call}
 use Rattle.fp_model.specs.declared.definitions.DedbDef.{DedbDef}
@@ -12,6 +12,7 @@ use Rattle.dedb_calls.proofs.CallLemmas.{fits_on}
 use Rattle.dedb_calls.proofs.TargetLemmas.{NamesDedb, behind_msdbs, dedb_has, named_dedb, on_dedb, on_msdb}
 use Rattle.dli_calls.specs.Progress.{Progress, dedbs_in}
 use Rattle.dli_calls.specs.Targets.{FitsWork, IfDedb, LeavesDedbs, LeavesOthers}
+use Rattle.plain_laws.proofs.Places.{beyond_none}
 
 -- one that fits, and doesn't name a main storage database
 pub names_dedb : (defs : Defs) (c : Call) (work : Progress) (n at count dedb : ℕ) → n ≡ database_of c → at ≡ n
@@ -43,12 +44,6 @@ msdb_only defs P c (def, there, fits) =
 pub msdb_target : (defs : Defs) (c : Call) → IsMsdbCall defs.msdbs c
     → (def : MsdbDef) × (target_of defs (database_of c) ≡ OnMsdb def (database_of c))
 msdb_target defs c (def, there, fits) = (def, on_msdb defs (database_of c) def there)
-
--- nothing stands beyond the end alone
-beyond_none : {A : Type 0} (xs : List A) (n : ℕ) → slice_get xs n ≡ None → length xs ≤ n
-beyond_none [] n none = omega arith
-beyond_none (x ∷ xs) zero none = absurd (cc)
-beyond_none (x ∷ xs) (suc n) none = let later = beyond_none xs n none in omega (arith, later)
 
 fits_at : (defs : Defs) (shown : ℕ → Option ℕ) (work : Progress) (c : Call) (n : ℕ)
     → IsTied defs shown work.own

@@ -10,13 +10,11 @@ use Rattle.fp_model.specs.Order.{Occurrence, Step, admits, ends_in, last_type, l
 use Rattle.fp_model.specs.Texts.{same_text}
 use Rattle.fp_model.specs.WellFormed.{HavePlaces}
 use Rattle.dli_tree.specs.inside.Aims.{agrees, can_be_met, can_stand, ends_below, ends_here, fits}
-use Rattle.key_order.proofs.Ascending.{first_of, not_both, second_of}
-use Rattle.dli_tree.proofs.Entering.{false_and}
+use Rattle.key_order.proofs.Ascending.{not_both}
 use Rattle.dli_tree.proofs.Lines.{IsFrom, IsLine, end_from, ends_are, first_stands, parent_less, stands_on}
-use Rattle.dli_tree.proofs.Positions.{any_before, any_last, is_equal, is_other, line_end, line_here, line_top, line_up}
-
-number_is : (a b : ℕ) → (a == b) ≡ true → a ≡ b
-number_is a b e = grind arith
+use Rattle.dli_tree.proofs.Positions.{any_before, any_last, line_end, line_here, line_top, line_up}
+use Rattle.plain_laws.proofs.Truths.{and_false, first_of_both, second_of_both}
+use Rattle.plain_laws.proofs.Numbers.{number_is, other_number}
 
 -- ---- a longer line holds what a shorter one does
 
@@ -99,7 +97,7 @@ module _ (types : List SegDef) (have : HavePlaces 0 types) where
     none_follows type [] low line = (refl, refl)
     none_follows type (s ∷ ss) low line =
         let above : type < s.segment = parent_less types s.segment type have line.0 in
-        let differs : (s.segment == x) ≡ false = is_other s.segment x (λ e. absurd (omega (arith, above, low, e))) in
+        let differs : (s.segment == x) ≡ false = other_number s.segment x (λ e. absurd (omega (arith, above, low, e))) in
         let later = none_follows s.segment ss (omega (arith, above, low)) line.1 in
         (rw differs later.0, rw differs later.1)
 
@@ -187,8 +185,8 @@ module _ (types : List SegDef) (have : HavePlaces 0 types) where
       let a = option_map_or (λ (key : List ℕ). list_any (λ t. t == ssa.segment) (line_to types (end_from 0 path)))
       ssa.key true in
       let b = can_stand types (end_from 0 path) ssas in
-      ap (λ (c : Bool). c && list_all (stands_in path) ssas) (one_ssa path ssa from (first_of a b can))
-      ∙ ap (λ (c : Bool). list_all (λ s. fits s ssa) path && c) (all_ssas path ssas from (second_of a b can))
+      ap (λ (c : Bool). c && list_all (stands_in path) ssas) (one_ssa path ssa from (first_of_both a b can))
+      ∙ ap (λ (c : Bool). list_all (λ s. fits s ssa) path && c) (all_ssas path ssas from (second_of_both a b can))
 
   -- an argument that names a type off the line stands in no path
   off_line : (path : List Step) (ssas : List Ssa) → IsFrom types 0 path → can_stand types (end_from 0 path) ssas ≡ false
@@ -225,7 +223,7 @@ module _ (types : List SegDef) (have : HavePlaces 0 types) where
           false
           → (can_stand types (end_from 0 path) ssas ≡ false → list_all (stands_in path) ssas ≡ false)
           → list_all (stands_in path) (ssa ∷ ssas) ≡ false
-      by o is false more e later = rw (later more) (false_and (stands_in path ssa))
+      by o is false more e later = rw (later more) (and_false (stands_in path ssa))
       by None is true more e later = absurd (not_both e)
       by (Some key) is true more e later = rw is (rw
           (no key (sym (true_and (list_any (λ t. t == ssa.segment) (line_to types (end_from 0 path)))) ∙ e)) refl)

@@ -13,7 +13,7 @@ use Rattle.fp_model.specs.Order.{Edit, Inserts, Replaces, Deletes, Step, below_e
 use Rattle.fp_model.specs.State.{ascend, change_key, drop_key, put_by_key}
 use Rattle.fp_model.specs.Texts.{same_text}
 use Rattle.fp_model.specs.Shape.{are_rows, is_row, seen_as}
-use Rattle.std.proofs.lemmas.Option.{get_or_from_slice_get, slice_get-get_or}
+use Rattle.std.proofs.lemmas.Option.{get_or_from_slice_get, slice_get-get_or, none-some, same_Some}
 use Rattle.std.proofs.lemmas.List.Quantifiers.{position-Some}
 use Rattle.dli_tree.specs.Paths.{step_of, steps_of}
 use Rattle.dli_tree.specs.declared.path.Step.{Step as StepOf}
@@ -22,14 +22,10 @@ use Rattle.dli_tree.specs.InOrder.{are_in_order}
 use Rattle.dli_tree.specs.Descents.{leads_below, leads_to, twin_of}
 use Rattle.dli_tree.specs.declared.place.Place.{Place}
 use Rattle.dli_tree.specs.declared.place.Place.TheVariants.{Lacks, Stands}
-use Rattle.key_order.proofs.Ascending.{changed_at, changed_none, dropped_at, dropped_none, first_of, found_at, found_there, no_same, none_is_not_some, not_both, second_of, put_at, put_behind}
-
-pub one_is : {X : Type 0} (x y : X) → Some x ≡ Some y → x ≡ y
-one_is x y e = cc
-
-pub on_ok_with : {A E : Type 0} (P Q : Type 0) (r : Result A E) → (P → Q) → OnOk r P → OnOk r Q
-on_ok_with P Q (Ok a) h p = h p
-on_ok_with P Q (Err e) h p = tt
+use Rattle.key_order.proofs.Ascending.{changed_at, changed_none, dropped_at, dropped_none, found_at, found_there, no_same, not_both, put_at, put_behind}
+use Rattle.plain_laws.proofs.Truths.{first_of_both, second_of_both}
+use Rattle.plain_laws.proofs.Numbers.{number_is}
+use Rattle.plain_laws.proofs.Places.{set_same}
 
 -- a place among elements that are these, of a key that is this one
 pub placed_in : {X : Type 0} (key : X → List ℕ) (k j : List ℕ) (xs ys : List X) (place : Place) → ys ≡ xs → j ≡ k
@@ -75,13 +71,6 @@ new_node_key types type bytes = ap (λ (f : Node-F Node). key_in types type f.by
 
 -- ---- twins
 
-number_is : (a b : ℕ) → (a == b) ≡ true → a ≡ b
-number_is a b e = grind arith
-
-pub on_err_with : {A E : Type 0} (P Q : Type 0) (r : Result A E) → (P → Q) → OnErr r P → OnErr r Q
-on_err_with P Q (Ok a) h p = tt
-on_err_with P Q (Err e) h p = h p
-
 pub row_end : (types : List SegDef) (edit : Edit) (s : Step) (rest : List StepOf) (twins : List Node)
     → (length rest == 0) ≡ true → nodes_edited types s edit twins ≡ twins_edited types edit s (steps_of rest) twins
 row_end types edit s [] twins e = refl
@@ -101,15 +90,10 @@ row_goes types edit s (t ∷ ts) twins e = refl
 rolled : (n : Node) → roll-Node (out-Node n) ≡ n
 rolled n = search the_lemmas
 
-pub same_set : {X : Type 0} (xs : List X) (i : ℕ) (x : X) → slice_get xs i ≡ Some x → slice_set xs i x ≡ xs
-same_set [] i x h = refl
-same_set {X} (y ∷ xs) zero x h = ap (λ (z : X). z ∷ xs) (sym (one_is y x h))
-same_set {X} (y ∷ xs) (suc i) x h = ap (λ (zs : List X). y ∷ zs) (same_set xs i x h)
-
 -- a twin with the children that it has
 pub same_children : (twins : List Node) (i : ℕ) (n : Node) → slice_get twins i ≡ Some n
     → slice_set twins i (roll-Node (record { bytes = (out-Node n).bytes; children = (out-Node n).children })) ≡ twins
-same_children twins i n at = ap (λ (m : Node). slice_set twins i m) (rolled n) ∙ same_set twins i n at
+same_children twins i n at = ap (λ (m : Node). slice_set twins i m) (rolled n) ∙ set_same twins i n at
 
 pub twin_there : {X : Type 0} (xs : List X) (i : ℕ) (x : X) → slice_get xs i ≡ Some x → x ≡ get_or xs i x
 twin_there xs i x at = sym (get_or_from_slice_get xs i x x at)
@@ -178,14 +162,14 @@ kind_at type kinds at e =
 row_in : (types : List SegDef) (kinds : List ℕ) (rows : List (List Node)) (at type : ℕ) (row : List Node)
     → slice_get kinds at ≡ Some type → slice_get rows at ≡ Some row
     → are_rows types kinds (map (map (seen_as types)) rows) ≡ true → is_row types type (map (seen_as types) row) ≡ true
-row_in types [] rows at type row kind there e = absurd (none_is_not_some type kind)
-row_in types (k ∷ ks) [] at type row kind there e = absurd (none_is_not_some row there)
+row_in types [] rows at type row kind there e = absurd (none-some type kind)
+row_in types (k ∷ ks) [] at type row kind there e = absurd (none-some row there)
 row_in types (k ∷ ks) (r ∷ rs) zero type row kind there e =
-    let here = first_of (is_row types k (map (seen_as types) r)) (are_rows types ks (map (map (seen_as types)) rs)) e in
-    subst (λ (t : ℕ). is_row types t (map (seen_as types) row) ≡ true) (one_is k type kind)
-    (subst (λ (q : List Node). is_row types k (map (seen_as types) q) ≡ true) (one_is r row there) here)
+    let here = first_of_both (is_row types k (map (seen_as types) r)) (are_rows types ks (map (map (seen_as types)) rs)) e in
+    subst (λ (t : ℕ). is_row types t (map (seen_as types) row) ≡ true) (same_Some k type kind)
+    (subst (λ (q : List Node). is_row types k (map (seen_as types) q) ≡ true) (same_Some r row there) here)
 row_in types (k ∷ ks) (r ∷ rs) (suc at) type row kind there e =
-    row_in types ks rs at type row kind there (second_of (is_row types k (map (seen_as types) r))
+    row_in types ks rs at type row kind there (second_of_both (is_row types k (map (seen_as types) r))
     (are_rows types ks (map (map (seen_as types)) rs)) e)
 
 pub row_shape : (types : List SegDef) (parent type at : ℕ) (o : Option ℕ) (rows : List (List Node)) (row : List Node)
@@ -224,7 +208,7 @@ module _ {X : Type 0} (key : X → List ℕ) where
   pub find_stands : (k : List ℕ) (xs : List X) (n : ℕ) (x : X) → ascend (map key xs) ≡ true
       → IsPlaced key k xs (Stands n) → slice_get xs n ≡ Some x → Some x ≡ find (λ y. same_text (key y) k) xs
   find_stands k xs n x up p at = sym (found_there key k xs n x p.0 up at
-      (subst (λ (y : X). same_text (key y) k ≡ true) (one_is p.1 x (sym p.2 ∙ at)) p.3))
+      (subst (λ (y : X). same_text (key y) k ≡ true) (same_Some p.1 x (sym p.2 ∙ at)) p.3))
 
   pub find_lacks : (k : List ℕ) (xs : List X) (n : ℕ) → ascend (map key xs) ≡ true → IsPlaced key k xs (Lacks n)
       → None ≡ find (λ y. same_text (key y) k) xs

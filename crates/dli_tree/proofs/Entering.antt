@@ -8,6 +8,8 @@ use Rattle.fp_model.specs.Order.{Occurrence, Step, one_down, path_precedes, is_p
 use Rattle.dli_tree.specs.declared.aim.Aim.{Aim}
 use Rattle.dli_tree.specs.Paths.{steps_of}
 use Rattle.dli_tree.specs.inside.Aims.{Search, agrees, aim_of, ends_below, ends_here, entered, inside_step, is_inside, is_past, looks_for, past_step, wants}
+use Rattle.plain_laws.proofs.Truths.{and_false}
+use Rattle.plain_laws.proofs.Alls.{find_alike, find_none}
 
 -- ---- nothing stands before or within a path of no steps
 
@@ -20,10 +22,6 @@ none_within [] = refl
 none_within (s ∷ ss) = refl
 
 -- ---- one step down
-
-pub false_and : (a : Bool) → (a && false) ≡ false
-false_and true = refl
-false_and false = refl
 
 abbrev or_false : {X : Type 0} → (X → Bool) → Option X → Bool
 or_false f o = option_map_or f o false
@@ -65,20 +63,12 @@ wants_down aim d rest = by (agrees aim.ssas d) (past_step aim.behind d) (inside_
         ≡ or_false (λ below. wants below rest) (if a then option_and_then
         (λ b. option_map (λ w. record aim { above = d.segment; behind = b; within = w }) within) behind else None)
     by true (Some b) (Some w) e f = rw (e, f) refl
-    by true (Some b) None e f = rw (e, f) (rw (false_and (is_past b rest)) refl)
+    by true (Some b) None e f = rw (e, f) (rw (and_false (is_past b rest)) refl)
     by true None within e f = rw e refl
-    by false behind within e f = rw (false_and (ends_below aim.ssas d.segment rest))
-        (false_and (is_past aim.behind (d ∷ rest) && is_inside aim.within (d ∷ rest)))
+    by false behind within e f = rw (and_false (ends_below aim.ssas d.segment rest))
+        (and_false (is_past aim.behind (d ∷ rest) && is_inside aim.within (d ∷ rest)))
 
 -- ---- finding
-
-pub find_alike : {X : Type 0} (p q : X → Bool) (xs : List X) → ((x : X) → p x ≡ q x) → find p xs ≡ find q xs
-find_alike p q [] h = refl
-find_alike p q (x ∷ xs) h = rw (h x) (ap (λ (o : Option _). if q x then Some x else o) (find_alike p q xs h))
-
-pub find_none : {X : Type 0} (p : X → Bool) (xs : List X) → ((x : X) → p x ≡ false) → find p xs ≡ None
-find_none p [] h = refl
-find_none p (x ∷ xs) h = rw (h x) (find_none p xs h)
 
 find_mapped : {X Y : Type 0} (f : X → Y) (p : Y → Bool) (xs : List X)
     → find p (map f xs) ≡ option_map f (find (λ x. p (f x)) xs)
@@ -136,4 +126,4 @@ not_within aim e = by aim.within e
     by None e = cc
     by (Some ss) e = rw (none_within (steps_of ss.now))
         (ap (λ (b : Bool). b && (ends_here (aim_of aim).ssas aim.above && true))
-        (false_and (is_past (aim_of aim).behind [])))
+        (and_false (is_past (aim_of aim).behind [])))

@@ -5,7 +5,7 @@ use Rattle.std.specs.List.{AllByRecursion, list_all, list_any, position_from}
 use Rattle.std.specs.Option.{option_map_or}
 use Rattle.std.proofs.lemmas.Iterator.Adapters.{position_from-zero}
 use Rattle.std.proofs.lemmas.List.Quantifiers.{position-Some}
-use Rattle.std.proofs.lemmas.Option.{slice_get-get_or}
+use Rattle.std.proofs.lemmas.Option.{slice_get-get_or, none-some, same_Some}
 use Rattle.fp_model.specs.declared.database.Node.{Node, out-Node}
 use Rattle.fp_model.specs.declared.database.Root.{Root}
 use Rattle.fp_model.specs.declared.database.SeqItem.{SeqItem}
@@ -16,14 +16,15 @@ use Rattle.fp_model.specs.State.{ascend, is_below}
 use Rattle.fp_model.specs.Texts.{same_text}
 use Rattle.dli_tree.specs.Descents.{AreDirect, leads_below, leads_to, twin_of}
 use Rattle.dli_tree.specs.InOrder.{any_ends, are_in_order}
-use Rattle.key_order.proofs.Ascending.{IsAscending, all_above, below_differs, differs_back, first_of, is_same, none_is_not_some, not_both, same_is, second_of, tail_ascends}
-use Rattle.dli_tree.proofs.Entering.{false_and}
-use Rattle.dli_tree.proofs.Editing.{one_is, row_shape}
+use Rattle.key_order.proofs.Ascending.{IsAscending, all_above, below_differs, differs_back, not_both, tail_ascends}
+use Rattle.dli_tree.proofs.Editing.{row_shape}
 use Rattle.dli_tree.proofs.Roots.{all_roots, roots_ascend, shaped}
 use Rattle.dli_tree.proofs.Rows.{all_below, all_in_shape, order_is, orders, row_ascends, rows_shape, seen_rows}
-
-number_is : (a b : ℕ) → (a == b) ≡ true → a ≡ b
-number_is a b e = grind arith
+use Rattle.plain_laws.proofs.Alls.{all_weaker}
+use Rattle.plain_laws.proofs.Truths.{first_of_both, or_false, second_of_both}
+use Rattle.plain_laws.proofs.Numbers.{number_is}
+use Rattle.model_laws.proofs.Texts.{same_text_is}
+use Rattle.model_laws.proofs.Layouts.{sequential_is}
 
 -- ---- whether a path stands among occurrences
 
@@ -83,7 +84,7 @@ module _ {X : Type 0} (key : X → List ℕ) (k : List ℕ) (b : X → Bool) whe
   others_none x [] same all = refl
   others_none x (y ∷ ys) same all =
       let other : same_text (key y) k ≡ false = differs_back k (key y)
-      (subst (λ (j : List ℕ). same_text j (key y) ≡ false) (same_is (key x) k same)
+      (subst (λ (j : List ℕ). same_text j (key y) ≡ false) (same_text_is (key x) k same)
       (below_differs (key x) (key y) all.0)) in
       rw other (others_none x ys same all.1)
 
@@ -201,11 +202,6 @@ abbrev IsRising : List ℕ → Type 0
 IsRising [] = Unit {0}
 IsRising (k ∷ ks) = AllByRecursion (λ j. k < j) ks × IsRising ks
 
-all_weaker : {X : Type 0} (P Q : X → Type 0) (xs : List X) → ((x : X) → P x → Q x) → AllByRecursion P xs
-    → AllByRecursion Q xs
-all_weaker P Q [] h all = tt
-all_weaker P Q (x ∷ xs) h all = (h x all.0, all_weaker P Q xs h all.1)
-
 numbers_high : (test : SegDef → Bool) (at : ℕ) (defs : List SegDef)
     → AllByRecursion (λ k. at ≤ k) (numbers_from at test defs)
 numbers_high test at [] = tt
@@ -227,10 +223,6 @@ numbers_rise test at (d ∷ ds) = by (test d) (all_weaker (λ k. at + 1 ≤ k) (
         (if b then at ∷ numbers_from (at + 1) test ds else numbers_from (at + 1) test ds)
     by true above later = (above, later)
     by false above later = later
-
-or_false : (b : Bool) → (b || false) ≡ b
-or_false true = refl
-or_false false = refl
 
 module _ (types : List SegDef) (q : Step) (qs : List Step) (serial : q.serial ≡ 0) where
   abbrev kind_is : ℕ → Bool
@@ -257,10 +249,10 @@ module _ (types : List SegDef) (q : Step) (qs : List Step) (serial : q.serial �
       any_append (λ o. same_path o.path (q ∷ qs)) (flat_map (λ (child : ℕ → List Occurrence). child k)
       (map (node_order types) r)) (rows_in_order ks (orders types rs))
       ∙ by (k == q.segment) refl (rows_has ks rs rise.1
-      (second_of (is_row types k (map (seen_as types) r)) (are_rows types ks (seen_rows types rs)) shape))
+      (second_of_both (is_row types k (map (seen_as types) r)) (are_rows types ks (seen_rows types rs)) shape))
     where
       good : is_row types k (map (seen_as types) r) ≡ true
-      good = first_of (is_row types k (map (seen_as types) r)) (are_rows types ks (seen_rows types rs)) shape
+      good = first_of_both (is_row types k (map (seen_as types) r)) (are_rows types ks (seen_rows types rs)) shape
 
       by : (b : Bool) → (k == q.segment) ≡ b → has (q ∷ qs) (rows_in_order ks (orders types rs)) ≡ stands_in_rows rs
           (position kind_is ks)
@@ -287,11 +279,11 @@ module _ (types : List SegDef) (q : Step) (qs : List Step) (serial : q.serial �
 
 found_has : {X : Type 0} (P : X → Type 0) (p : X → Bool) (xs : List X) (x : X) → AllByRecursion P xs
     → find p xs ≡ Some x → P x
-found_has P p [] x all e = absurd (none_is_not_some x e)
+found_has P p [] x all e = absurd (none-some x e)
 found_has {X} P p (y ∷ ys) x all e = by (p y) e (λ f. found_has P p ys x all.1 f)
   where
     by : (b : Bool) → (if b then Some y else find p ys) ≡ Some x → (find p ys ≡ Some x → P x) → P x
-    by true e later = subst P (one_is y x e) all.0
+    by true e later = subst P (same_Some y x e) all.0
     by false e later = later e
 
 alike_at : {X : Type 0} (f g : X → Bool) (o : Option X) → ((x : X) → o ≡ Some x → f x ≡ g x)
@@ -308,7 +300,7 @@ twin_good types parent q rows n shape e = by (position (λ t. t == q.segment) (c
         → slice_get rows at ≡ row → option_and_then (λ r. find (λ m. same_text (node_key types q.segment m) q.key) r)
         row ≡ Some n
         → are_rows types (child_types types q.segment) (seen_rows types (out-Node n).children) ≡ true
-    row_by at is None there f = absurd (none_is_not_some n f)
+    row_by at is None there f = absurd (none-some n f)
     row_by at is (Some row) there f =
         let good = row_shape types parent q.segment at (Some at) rows row (sym is) refl there shape in
         rows_shape types q.segment n (found_has (λ m. (seen_as types m q.segment).in_shape ≡ true)
@@ -318,7 +310,7 @@ twin_good types parent q rows n shape e = by (position (λ t. t == q.segment) (c
         → option_and_then (λ r. find (λ m. same_text (node_key types q.segment m) q.key) r)
         (option_and_then (λ at. slice_get rows at) o) ≡ Some n
         → are_rows types (child_types types q.segment) (seen_rows types (out-Node n).children) ≡ true
-    by None is f = absurd (none_is_not_some n f)
+    by None is f = absurd (none-some n f)
     by (Some at) is f = row_by at is (slice_get rows at) refl f
 
 -- ---- paths below a parent
@@ -339,13 +331,6 @@ below_leads types parent q (t ∷ ts) rows serial more shape =
     (twin_good types parent q rows n shape e))
 
 -- ---- paths from the roots
-
-sequential_is : (types : List SegDef) (type : ℕ) → sequential_type types ≡ Some type → is_sequential types type ≡ true
-sequential_is [] type e = absurd (none_is_not_some type e)
-sequential_is (d ∷ ds) type e =
-    let f = position-Some (λ (def : SegDef). def.sequential) (d ∷ ds) type d e in
-    ap (λ (o : Option SegDef). option_map_or (λ (def : SegDef). def.sequential) o false)
-    (slice_get-get_or (d ∷ ds) type d f.0) ∙ f.1
 
 seqs_have_not : (types : List SegDef) (items : List SeqItem) (q : Step) (qs : List Step)
     → is_sequential types q.segment ≡ false → has (q ∷ qs) (sequentials types items) ≡ false

@@ -11,12 +11,10 @@ use Rattle.fp_model.specs.declared.definitions.SegDef.{SegDef}
 use Rattle.fp_model.specs.Order.{Occurrence, Step, at_end, child_types, direct, is_child_of, key_in, last_type, line_to, line_within, node_order, node_step, numbers_from, one_down, parent_of, rows_in_order, under}
 use Rattle.fp_model.specs.WellFormed.{HasPlace, HavePlaces}
 use Rattle.dli_tree.specs.inside.Aims.{Search, agrees, ends_below, ends_here, is_inside, is_past, leads_on, looks_for, wants}
-use Rattle.key_order.proofs.Ascending.{none_is_not_some, not_both, some_is}
-use Rattle.dli_tree.proofs.Entering.{false_and}
-use Rattle.dli_tree.proofs.Positions.{any_before, any_last, is_equal, line_here}
-
-number_is : (a b : ℕ) → (a == b) ≡ true → a ≡ b
-number_is a b e = grind arith
+use Rattle.key_order.proofs.Ascending.{not_both}
+use Rattle.dli_tree.proofs.Positions.{any_before, any_last, line_here}
+use Rattle.plain_laws.proofs.Numbers.{number_is, same_number}
+use Rattle.std.proofs.lemmas.Option.{none-some, same_Some}
 
 -- ---- a parent's number is less
 
@@ -25,7 +23,7 @@ parent_at defs k = option_map_or (λ (def : SegDef). def.parent) (slice_get defs
 
 parent_below : (place : ℕ) (defs : List SegDef) (k p : ℕ) → HavePlaces place defs → parent_at defs k ≡ Some p
     → p < place + k
-parent_below place [] k p have e = absurd (none_is_not_some p e)
+parent_below place [] k p have e = absurd (none-some p e)
 parent_below place (def ∷ defs) zero p have e =
     let here : IfSome (Some p) (λ (q : ℕ). q < place) =
     subst (λ (o : Option ℕ). IfSome o (λ (q : ℕ). q < place)) e have.0.0 in
@@ -36,7 +34,7 @@ pub parent_less : (types : List SegDef) (k p : ℕ) → HavePlaces 0 types → p
 parent_less types k p have e = omega (arith, parent_below 0 types k p have e)
 
 within_types : (types : List SegDef) (k p : ℕ) → parent_at types k ≡ Some p → k ≤ length types
-within_types [] k p e = absurd (none_is_not_some p e)
+within_types [] k p e = absurd (none-some p e)
 within_types (def ∷ defs) zero p e = omega arith
 within_types (def ∷ defs) (suc k) p e = omega (arith, within_types defs k p e)
 
@@ -74,9 +72,9 @@ module _ (types : List SegDef) (have : HavePlaces 0 types) where
           → list_any (λ t. t == type) (line_within n types p ++ last ∷ []) ≡ true
           → list_any (λ t. t == parent) (line_within n types p ++ last ∷ []) ≡ true
       both again p is true same there =
-          let one : p ≡ parent = some_is p parent (sym is ∙ ap (parent_of types) (number_is last type same) ∙ up) in
+          let one : p ≡ parent = same_Some p parent (sym is ∙ ap (parent_of types) (number_is last type same) ∙ up) in
           any_front (λ t. t == parent) (line_within n types p) (last ∷ [])
-          (line_here (λ t. t == parent) types n p (is_equal p parent one))
+          (line_here (λ t. t == parent) types n p (same_number p parent one))
       both again p is false same there =
           let less : p < last = parent_less types last p have is in
           let few_left : last ≤ suc n = few p is in
@@ -92,7 +90,7 @@ module _ (types : List SegDef) (have : HavePlaces 0 types) where
           (option_map_or (λ q. line_within n types q ++ last ∷ []) o (last ∷ []))) is) ∙ on))
         where
           by : (b : Bool) → (last == type) ≡ b → (b || false) ≡ true → ⊥
-          by true same e = none_is_not_some parent (sym is ∙ ap (parent_of types) (number_is last type same) ∙ up)
+          by true same e = none-some parent (sym is ∙ ap (parent_of types) (number_is last type same) ∙ up)
           by false same e = not_both (sym e)
       above again (Some p) is =
           let P : Option ℕ → Type 0 = λ o. list_any (λ t. t == parent)
@@ -126,7 +124,7 @@ module _ (types : List SegDef) (have : HavePlaces 0 types) where
   -- a type stands on the line to the type at the end of a path below it
   pub first_stands : (type : ℕ) (path : List Step) → IsLine types type path
       → stands_on types (length types) (end_from type path) type ≡ true
-  first_stands type [] line = line_here (λ t. t == type) types (length types) type (is_equal type type refl)
+  first_stands type [] line = line_here (λ t. t == type) types (length types) type (same_number type type refl)
   first_stands type (s ∷ ss) line = parent_stands types have (length types) (end_from s.segment ss) s.segment type
       (λ p e. within_types types (end_from s.segment ss) p e) (first_stands s.segment ss line.1) line.0
 

@@ -1,5 +1,5 @@
 -- Places of types: among the children of a type, and on the line from the root.
-use Rattle.std.proofs.Common.{◌≡◌, ℕ, zero, suc, ◌+◌, ◌-◌, ◌<◌, ◌≤◌, List, [], ◌∷◌, ◌++◌, drop, length, get_or, Option, Some, None, Bool, true, false, ◌&&◌, ◌||◌, not, ◌==◌, refl, sym, ap, ◌∙◌, subst, arith, add-one}
+use Rattle.std.proofs.Common.{◌≡◌, ℕ, zero, suc, ◌+◌, ◌-◌, ◌<◌, ◌≤◌, List, [], ◌∷◌, ◌++◌, drop, length, get_or, Option, Some, None, Bool, true, false, ◌&&◌, ◌||◌, not, refl, sym, ap, ◌∙◌, subst, add-one}
 use Rattle.std.specs.Prelude.{option_map, position, if◌then◌else◌}
 use Rattle.std.specs.List.{list_any, position_from}
 use Rattle.std.specs.Option.{option_map_or}
@@ -8,12 +8,6 @@ use Rattle.std.proofs.Math.Seq.{drop-cons}
 use Rattle.std.proofs.lemmas.List.{drop_all}
 use Rattle.fp_model.specs.declared.definitions.SegDef.{SegDef}
 use Rattle.fp_model.specs.Order.{is_child_of, line_within, numbers_from, parent_of}
-
-pub is_equal : (a b : ℕ) → a ≡ b → (a == b) ≡ true
-is_equal a b e = grind arith
-
-pub is_other : (a b : ℕ) → (a ≡ b → ⊥) → (a == b) ≡ false
-is_other a b h = grind arith
 
 -- the place of the first number that passes, from the types at a place on, where so many stood before
 abbrev pub place_from : (ℕ → Bool) → (SegDef → Bool) → ℕ → ℕ → List SegDef → Option ℕ

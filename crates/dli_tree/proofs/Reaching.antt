@@ -12,8 +12,10 @@ use Rattle.dli_tree.specs.Paths.{step_of, steps_of}
 use Rattle.dli_tree.specs.declared.path.Step.{Step as StepOf}
 use Rattle.key_order.specs.Places.{IsPlace}
 use Rattle.dli_tree.specs.inside.Reaches.{IsLeft}
-use Rattle.key_order.proofs.Ascending.{IsAscending, all_above, all_at, below_differs, below_trans, differs_back, not_above, not_below_itself, not_both, same_is, tail_ascends}
-use Rattle.dli_tree.proofs.Entering.{false_and}
+use Rattle.key_order.proofs.Ascending.{IsAscending, all_above, all_at, below_differs, below_trans, differs_back, not_above, not_below_itself, not_both, tail_ascends}
+use Rattle.plain_laws.proofs.Truths.{and_false}
+use Rattle.plain_laws.proofs.Numbers.{lt_false as not_less}
+use Rattle.model_laws.proofs.Texts.{same_text_is}
 
 -- ---- steps that aren't entered
 
@@ -46,7 +48,7 @@ module _ (aim : Search) (s : Step) (ss : List Step) (type : ℕ) where
 
   pub within_key : aim.within ≡ Some (s ∷ ss) → (key : List ℕ) → same_text key s.key ≡ false → IsLeft aim type key
   within_key w key e = within_other w key (rw (differs_back key s.key e)
-      (ap (λ (b : Bool). b && s.serial == 0) (false_and (s.segment == type))))
+      (ap (λ (b : Bool). b && s.serial == 0) (and_false (s.segment == type))))
 
   -- ---- a position
 
@@ -62,11 +64,8 @@ module _ (aim : Search) (s : Step) (ss : List Step) (type : ℕ) where
       → IsLeft aim type key
   behind_key w e key less =
       let other : same_text s.key key ≡ false = differs_back key s.key (below_differs key s.key less) in
-      behind_other w key (rw other (ap (λ (b : Bool). b && s.serial == 0) (false_and (s.segment == type))))
+      behind_other w key (rw other (ap (λ (b : Bool). b && s.serial == 0) (and_false (s.segment == type))))
       (rw (e, other) (not_above key s.key less))
-
-pub not_less : (a b : ℕ) → b ≤ a → nat_lt a b ≡ false
-not_less a b h = grind arith
 
 -- ---- arguments
 
@@ -111,7 +110,7 @@ module _ {X : Type 0} (aim : Search) (type : ℕ) (key : X → List ℕ) (xs : L
       by : (there : List ℕ) → is_below (key (slice_index_or xs n d)) there ≡ true
           → is_below (key (slice_index_or xs n d)) k ≡ false → (b : Bool) → same_text there k ≡ b → b ≡ false
       by there less not_less true e = absurd (not_both
-          (sym less ∙ ap (is_below (key (slice_index_or xs n d))) (same_is there k e) ∙ not_less))
+          (sym less ∙ ap (is_below (key (slice_index_or xs n d))) (same_text_is there k e) ∙ not_less))
       by there less not_less false e = refl
 
 pub none_after : {X : Type 0} (P : X → Type 0) (xs : List X) (n : ℕ) → length xs ≤ n → AllWithin P xs n (length xs)

@@ -6,7 +6,7 @@ use Rattle.std.specs.List.{AllByRecursion, list_all}
 use Rattle.std.specs.List.Sorted.{IsPartitionedBy}
 use Rattle.std.specs.Option.{option_copied, option_map_or, option_or}
 use Rattle.std.proofs.lemmas.List.Quantifiers.{position-Some}
-use Rattle.std.proofs.lemmas.Option.{slice_get-get_or}
+use Rattle.std.proofs.lemmas.Option.{slice_get-get_or, none-some, same_Some}
 use Rattle.std.proofs.lemmas.List.Concat.{flat_map_single}
 use Rattle.std.proofs.lemmas.List.Folds.{find-append}
 use Rattle.fp_model.specs.declared.calls.Ssa.{Ssa}
@@ -28,10 +28,13 @@ use Rattle.dli_tree.specs.Paths.{occurrence_of, place_of, step_of, steps_of}
 use Rattle.dli_tree.specs.inside.Paths.{path_steps}
 use Rattle.dli_tree.specs.inside.Reaches.{IsLeft}
 use Rattle.dli_tree.proofs.Admitting.{admitted, not_admitted}
-use Rattle.key_order.proofs.Ascending.{all_at, first_of, none_is_not_some, not_both, second_of, some_is}
-use Rattle.dli_tree.proofs.Entering.{false_and, find_under, found_below, none_behind, none_within, wants_down}
+use Rattle.key_order.proofs.Ascending.{all_at, not_both}
+use Rattle.dli_tree.proofs.Entering.{find_under, found_below, none_behind, none_within, wants_down}
 use Rattle.dli_tree.proofs.Lines.{IsFrom, IsLine, all_append, rows_line, under_from}
 use Rattle.dli_tree.proofs.Rows.{found_from, orders, skipped}
+use Rattle.plain_laws.proofs.Alls.{all_of_list_all, all_weaker}
+use Rattle.plain_laws.proofs.Truths.{and_false, first_of_both, second_of_both}
+use Rattle.plain_laws.proofs.Numbers.{is_le, le_is as le_of, lt_is}
 
 -- ---- one step
 
@@ -51,7 +54,7 @@ pub not_inside : (aim : Search) (xs : List StepOf) (d : Step) → aim.within ≡
     → (length xs == 0) ≡ false → wants aim (d ∷ []) ≡ false
 not_inside aim [] d e some = absurd (not_both some)
 not_inside aim (x ∷ xs) d e some = rw e (rw (none_within (steps_of xs))
-    (rw (false_and (same_step (step_of x) d)) (rw (false_and (is_past aim.behind (d ∷ []))) refl)))
+    (rw (and_false (same_step (step_of x) d)) (rw (and_false (is_past aim.behind (d ∷ []))) refl)))
 
 no_key_below : (key : List ℕ) → is_below key [] ≡ false
 no_key_below [] = refl
@@ -86,25 +89,16 @@ not_older aim s rest type serial e same late =
 
 -- ---- sequential dependents
 
-le_of : (a b : ℕ) → nat_le a b ≡ true → a ≤ b
-le_of a b e = grind arith
-
-lt_of : (a b : ℕ) → nat_lt a b ≡ true → a < b
-lt_of a b e = grind arith
-
-pub le_is : (a b : ℕ) → a ≤ b → nat_le a b ≡ true
-le_is a b e = grind arith
-
 below_end : (begin end : ℕ) (xs : List SeqItem) (i : ℕ) (d : SeqItem) → are_newest_first begin end xs ≡ true
     → i < length xs → (slice_index_or xs i d).serial < end
 below_end begin end [] i d newest within = absurd (omega (arith, within))
 below_end begin end (x ∷ xs) zero d newest within =
-    lt_of x.serial end (second_of (nat_le begin x.serial) (nat_lt x.serial end)
-    (first_of (nat_le begin x.serial && nat_lt x.serial end) (are_newest_first begin x.serial xs) newest))
+    lt_is x.serial end (second_of_both (nat_le begin x.serial) (nat_lt x.serial end)
+    (first_of_both (nat_le begin x.serial && nat_lt x.serial end) (are_newest_first begin x.serial xs) newest))
 below_end begin end (x ∷ xs) (suc i) d newest within =
-    let here = lt_of x.serial end (second_of (nat_le begin x.serial) (nat_lt x.serial end)
-    (first_of (nat_le begin x.serial && nat_lt x.serial end) (are_newest_first begin x.serial xs) newest)) in
-    let later = below_end begin x.serial xs i d (second_of (nat_le begin x.serial && nat_lt x.serial end)
+    let here = lt_is x.serial end (second_of_both (nat_le begin x.serial) (nat_lt x.serial end)
+    (first_of_both (nat_le begin x.serial && nat_lt x.serial end) (are_newest_first begin x.serial xs) newest)) in
+    let later = below_end begin x.serial xs i d (second_of_both (nat_le begin x.serial && nat_lt x.serial end)
     (are_newest_first begin x.serial xs) newest) (omega (arith, within)) in
     omega (arith, here, later)
 
@@ -113,16 +107,13 @@ pub newest_partitioned : (serial begin end : ℕ) (xs : List SeqItem) → are_ne
 newest_partitioned serial begin end [] newest i j d le within passes = absurd (omega (arith, within))
 newest_partitioned serial begin end (x ∷ xs) newest zero zero d le within passes = passes
 newest_partitioned serial begin end (x ∷ xs) newest zero (suc j) d le within passes =
-    let later = below_end begin x.serial xs j d (second_of (nat_le begin x.serial && nat_lt x.serial end)
+    let later = below_end begin x.serial xs j d (second_of_both (nat_le begin x.serial && nat_lt x.serial end)
     (are_newest_first begin x.serial xs) newest) (omega (arith, within)) in
-    le_is serial x.serial (omega (arith, later, le_of serial (slice_index_or xs j d).serial passes))
+    is_le serial x.serial (omega (arith, later, le_of serial (slice_index_or xs j d).serial passes))
 newest_partitioned serial begin end (x ∷ xs) newest (suc i) zero d le within passes = absurd (omega (arith, le))
 newest_partitioned serial begin end (x ∷ xs) newest (suc i) (suc j) d le within passes =
-    newest_partitioned serial begin x.serial xs (second_of (nat_le begin x.serial && nat_lt x.serial end)
+    newest_partitioned serial begin x.serial xs (second_of_both (nat_le begin x.serial && nat_lt x.serial end)
     (are_newest_first begin x.serial xs) newest) i j d (omega (arith, le)) (omega (arith, within)) passes
-
-pub late_enough : (serial n : ℕ) → nat_le serial n ≡ true → serial ≤ n
-late_enough serial n e = le_of serial n e
 
 abbrev pub alone : ℕ → SeqItem → List Occurrence
 alone type item = dependent type item ∷ []
@@ -188,30 +179,26 @@ shaped types root e =
     let b = are_rows types (child_types types 0) (map (map (seen_as types)) root.children) in
     let c = are_newest_first 0 (2 ^ 64) root.seqs in
     let d = have_lengths types root.seqs in
-    let abc = first_of ((a && b) && c) d e in
-    record { rows = second_of a b (first_of (a && b) c abc); newest = second_of (a && b) c abc }
+    let abc = first_of_both ((a && b) && c) d e in
+    record { rows = second_of_both a b (first_of_both (a && b) c abc); newest = second_of_both (a && b) c abc }
 
 -- ---- all roots
 
-all_of : {X : Type 0} (p : X → Bool) (xs : List X) → list_all p xs ≡ true → AllByRecursion (λ x. p x ≡ true) xs
-all_of p [] e = tt
-all_of p (x ∷ xs) e = (first_of (p x) (list_all p xs) e, all_of p xs (second_of (p x) (list_all p xs) e))
-
 pub roots_ascend : (types : List SegDef) (roots : List Root) → are_in_order types roots ≡ true
     → ascend (map (root_key types) roots) ≡ true
-roots_ascend types roots e = second_of (list_all (is_root types any_ends) roots) (ascend (map (root_key types) roots)) e
+roots_ascend types roots e = second_of_both (list_all (is_root types any_ends) roots) (ascend (map (root_key types) roots)) e
 
 pub all_roots : (types : List SegDef) (roots : List Root) → are_in_order types roots ≡ true
     → AllByRecursion (λ r. is_root types any_ends r ≡ true) roots
-all_roots types roots e = all_of (is_root types any_ends) roots
-    (first_of (list_all (is_root types any_ends) roots) (ascend (map (root_key types) roots)) e)
+all_roots types roots e = all_of_list_all (is_root types any_ends) roots
+    (first_of_both (list_all (is_root types any_ends) roots) (ascend (map (root_key types) roots)) e)
 
 pub root_shape : (types : List SegDef) (roots : List Root) (i : ℕ) (root : Root) → are_in_order types roots ≡ true
     → i < length roots → root ≡ get_or roots i root → is_root types any_ends root ≡ true
 root_shape types roots i root e within is =
     subst (λ (r : Root). is_root types any_ends r ≡ true) (sym is)
     (all_at (λ r. is_root types any_ends r ≡ true) roots i root
-    (all_of (is_root types any_ends) roots (first_of (list_all (is_root types any_ends) roots)
+    (all_of_list_all (is_root types any_ends) roots (first_of_both (list_all (is_root types any_ends) roots)
     (ascend (map (root_key types) roots)) e)) within)
 
 -- ---- the whole anchor
@@ -219,19 +206,15 @@ root_shape types roots i root e within is =
 module _ (types : List SegDef) (have : HavePlaces 0 types) where
   sequential_parent : (place : ℕ) (defs : List SegDef) (k : ℕ) (def : SegDef) → HavePlaces place defs
       → slice_get defs k ≡ Some def → def.sequential ≡ true → def.parent ≡ Some 0
-  sequential_parent place [] k def h at is = absurd (none_is_not_some def at)
+  sequential_parent place [] k def h at is = absurd (none-some def at)
   sequential_parent place (d ∷ ds) zero def h at is =
-      subst (λ (x : SegDef). x.sequential ≡ true → x.parent ≡ Some 0) (some_is d def at) (λ e. (h.0.3 e).1) is
+      subst (λ (x : SegDef). x.sequential ≡ true → x.parent ≡ Some 0) (same_Some d def at) (λ e. (h.0.3 e).1) is
   sequential_parent place (d ∷ ds) (suc k) def h at is = sequential_parent (place + 1) ds k def h.1 at is
-
-pub some_first : {X : Type 0} (xs : List X) → (length xs == 0) ≡ false → 0 < length xs
-some_first [] e = absurd (not_both e)
-some_first (x ∷ xs) e = omega arith
 
 -- the type that is sequential has the root's type above it
 sequential_below : (types : List SegDef) → HavePlaces 0 types → (type : ℕ) → sequential_type types ≡ Some type
     → parent_of types type ≡ Some 0
-sequential_below [] have type e = absurd (none_is_not_some type e)
+sequential_below [] have type e = absurd (none-some type e)
 sequential_below (d ∷ ds) have type e =
     let f = position-Some (λ (def : SegDef). def.sequential) (d ∷ ds) type d e in
     let at = slice_get-get_or (d ∷ ds) type d f.0 in
@@ -246,11 +229,6 @@ find_alike_on p q (x ∷ xs) all = rw all.0 (ap (λ (o : Option _). if q x then 
 find_none_on : {X : Type 0} (p : X → Bool) (xs : List X) → AllByRecursion (λ x. p x ≡ false) xs → find p xs ≡ None
 find_none_on p [] all = refl
 find_none_on p (x ∷ xs) all = rw all.0 (find_none_on p xs all.1)
-
-all_weaker : {X : Type 0} (P Q : X → Type 0) (xs : List X) → ((x : X) → P x → Q x) → AllByRecursion P xs
-    → AllByRecursion Q xs
-all_weaker P Q [] h all = tt
-all_weaker P Q (x ∷ xs) h all = (h x all.0, all_weaker P Q xs h all.1)
 
 abbrev pub aim_at : List Ssa → Option (List Step) → Option (List Step) → Search
 aim_at ssas behind within = record { ssas = ssas; above = 0; behind = behind; within = within }
@@ -317,7 +295,7 @@ module _ (types : List SegDef) (have : HavePlaces 0 types) where
     passes_not : can_be_met types ssas ≡ false → (s : Occurrence) → IsFrom types 0 s.path → passes s ≡ false
     passes_not cannot s from =
         rw (not_admitted types have ssas s.path from cannot)
-        (false_and (option_map_or (λ p. place_precedes p (at_anchor s)) (option_map place_of position) true &&
+        (and_false (option_map_or (λ p. place_precedes p (at_anchor s)) (option_map place_of position) true &&
         option_map_or (λ p. lies_within p (at_anchor s)) (option_map place_of within) true))
 
     pub whole_found : can_be_met types ssas ≡ true → (roots : List Root)

@@ -20,16 +20,12 @@ use Rattle.dli_tree.specs.declared.aim.Aim.{Aim}
 use Rattle.dli_tree.specs.declared.path.Path.{Path}
 use Rattle.dli_tree.specs.Paths.{occurrence_of}
 use Rattle.dli_tree.specs.inside.Reaches.{IsLeft}
-use Rattle.key_order.proofs.Ascending.{all_at, first_of, none_is_not_some, not_both, second_of, stands_there}
-use Rattle.dli_tree.proofs.Entering.{false_and, find_under, found_below}
+use Rattle.key_order.proofs.Ascending.{all_at, not_both, stands_there}
+use Rattle.dli_tree.proofs.Entering.{find_under, found_below}
 use Rattle.dli_tree.proofs.Lines.{IsFrom, IsLine, end_from, ends_are, first_stands, node_from, stands_on}
-use Rattle.dli_tree.proofs.Positions.{is_equal}
+use Rattle.plain_laws.proofs.Truths.{and_false, first_of_both, second_of_both}
 
 -- ---- answers
-
-pub ok_with : {A E : Type 0} (P Q : A → Type 0) (r : Result A E) → ((a : A) → P a → Q a) → IfOk r P → IfOk r Q
-ok_with P Q (Ok a) h p = h a p
-ok_with P Q (Err e) h p = tt
 
 -- ---- one segment
 
@@ -93,7 +89,7 @@ module _ (types : List SegDef) where
 
   pub rows_shape : (type : ℕ) (node : Node) → in_shape type node ≡ true
       → are_rows types (child_types types type) (seen_rows (out-Node node).children) ≡ true
-  rows_shape type node e = second_of (has_length types type (out-Node node).bytes)
+  rows_shape type node e = second_of_both (has_length types type (out-Node node).bytes)
       (are_rows types (child_types types type) (seen_rows (out-Node node).children)) (sym (shape_is type node) ∙ e)
 
   bytes_are : (type : ℕ) (node : Node) → (seen_as types node type).bytes ≡ (out-Node node).bytes
@@ -108,7 +104,7 @@ module _ (types : List SegDef) where
 
   pub row_ascends : (type : ℕ) (row : List Node) → is_row types type (map (seen_as types) row) ≡ true
       → ascend (map (node_key types type) row) ≡ true
-  row_ascends type row e = sym (ap ascend (keys_seen type row)) ∙ second_of
+  row_ascends type row e = sym (ap ascend (keys_seen type row)) ∙ second_of_both
       (list_all (λ (seen : ℕ → Seen). (seen type).in_shape) (map (seen_as types) row))
       (ascend (map (λ (seen : ℕ → Seen). key_in types type (seen type).bytes) (map (seen_as types) row))) e
 
@@ -116,16 +112,16 @@ module _ (types : List SegDef) where
       ≡ true → AllByRecursion (λ n. in_shape type n ≡ true) row
   all_in type [] e = tt
   all_in type (n ∷ ns) e = (
-    first_of (in_shape type n)
+    first_of_both (in_shape type n)
         (list_all (λ (seen : ℕ → Seen). (seen type).in_shape) (map (seen_as types) ns)) e,
-    all_in type ns (second_of (in_shape type n) (list_all (λ (seen : ℕ → Seen). (seen type).in_shape)
+    all_in type ns (second_of_both (in_shape type n) (list_all (λ (seen : ℕ → Seen). (seen type).in_shape)
         (map (seen_as types) ns)) e),
   )
 
   pub all_in_shape : (type : ℕ) (row : List Node) → is_row types type (map (seen_as types) row) ≡ true
       → AllByRecursion (λ n. in_shape type n ≡ true) row
   all_in_shape type row e =
-      all_in type row (first_of (list_all (λ (seen : ℕ → Seen). (seen type).in_shape) (map (seen_as types) row))
+      all_in type row (first_of_both (list_all (λ (seen : ℕ → Seen). (seen type).in_shape) (map (seen_as types) row))
       (ascend (map (λ (seen : ℕ → Seen). key_in types type (seen type).bytes) (map (seen_as types) row))) e)
 
   pub twin_shape : (type : ℕ) (row : List Node) (i : ℕ) (node : Node)
@@ -134,7 +130,7 @@ module _ (types : List SegDef) where
   twin_shape type row i node e within is =
       subst (λ (n : Node). in_shape type n ≡ true) (sym is)
       (all_at (λ n. in_shape type n ≡ true) row i node
-      (all_in type row (first_of (list_all (λ (seen : ℕ → Seen). (seen type).in_shape) (map (seen_as types) row))
+      (all_in type row (first_of_both (list_all (λ (seen : ℕ → Seen). (seen type).in_shape) (map (seen_as types) row))
       (ascend (map (λ (seen : ℕ → Seen). key_in types type (seen type).bytes) (map (seen_as types) row))) e))
       within)
 
@@ -212,7 +208,7 @@ module _ (types : List SegDef) (have : HavePlaces 0 types) where
       let none : ends_below aim.ssas s.segment ss ≡ false =
       ends_are aim.ssas s.segment ss ∙ not_here aim.ssas s.segment ss (ap (leads_on types aim.ssas) from.0 ∙ leads)
       (subst (λ (t : ℕ). IsLine types t ss) (sym from.0) from.1) in
-      rw none (false_and (is_past aim.behind (s ∷ ss) && is_inside aim.within (s ∷ ss)))
+      rw none (and_false (is_past aim.behind (s ∷ ss) && is_inside aim.within (s ∷ ss)))
 
   all_unwanted : (aim : Search) (type : ℕ) (os : List Occurrence) → leads_on types aim.ssas type ≡ false
       → AllByRecursion (λ o. IsFrom types type o.path) os → AllByRecursion (λ o. looks_for aim o ≡ false) os
@@ -278,14 +274,14 @@ module _ (types : List SegDef) (aim : Search) where
   module _ (all : Option Occurrence) (kind : ℕ) (kinds : List ℕ) (row : List Node) (rows : List (List Node))
       (left : IsLeftOf all (kind ∷ kinds) (row ∷ rows)) where
     pub first_shape : is_row types kind (map (seen_as types) row) ≡ true
-    first_shape = first_of (is_row types kind (map (seen_as types) row)) (are_rows types kinds (seen_rows types rows))
+    first_shape = first_of_both (is_row types kind (map (seen_as types) row)) (are_rows types kinds (seen_rows types rows))
         left.shape
 
     pub row_next : find (looks_for aim) (row_of_kind kind row) ≡ None → IsLeftOf all kinds rows
     row_next none = record {
       same = left.same ∙ row_first kind kinds row rows ∙ ap
           (λ (o : Option Occurrence). option_or o (rows_left kinds rows)) none;
-      shape = second_of (is_row types kind (map (seen_as types) row)) (are_rows types kinds (seen_rows types rows))
+      shape = second_of_both (is_row types kind (map (seen_as types) row)) (are_rows types kinds (seen_rows types rows))
           left.shape;
     }
 
@@ -304,10 +300,6 @@ pub opened_list : {X : Type 0} (at : ℕ) (xs : List X) (x : X) → at < length 
     → drop at xs ≡ x ∷ drop (at + 1) xs
 opened_list at xs x within is = drop-cons xs at x within ∙ ap (λ (y : _). y ∷ drop (suc at) xs) (sym is) ∙ ap
     (λ (n : ℕ). x ∷ drop n xs) (sym (add-one at))
-
--- what stands at a place
-pub at_place : {X : Type 0} (xs : List X) (n : ℕ) (x : X) → n < length xs → x ≡ get_or xs n x → slice_get xs n ≡ Some x
-at_place xs n x within is = stands_there xs n x within ∙ ap Some (sym is)
 
 -- what is left, opened
 pub is_left : (types : List SegDef) (aim : Search) (all : Option Occurrence) (kinds more : List ℕ)

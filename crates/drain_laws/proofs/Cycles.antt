@@ -3,8 +3,9 @@ use Rattle.std.proofs.Common.{◌≡◌, ℕ, zero, suc, ◌≤◌, List, [], �
 use Rattle.std.specs.List.{Contains, AllByRecursion, IsDistinct}
 use Rattle.std.proofs.lemmas.Bool.{cases_eq}
 use Rattle.fp_model.specs.Waiting.{WaitsAlong, IsCycle}
-use Rattle.serial_order.proofs.Lists.{eqb_same, eqb_other, true_is_not_false, contains_nothing, contains_first, contains_later, contains_cases, contains_in_filter, map_contains}
+use Rattle.serial_order.proofs.Lists.{eqb_same, eqb_other, true_is_not_false, contains_in_filter}
 use Rattle.drain_laws.proofs.Walk.{others, others_fewer, others_stay}
+use Rattle.plain_laws.proofs.Alls.{contains_cases, contains_first, contains_later, contains_nothing, map_contains}
 
 -- each of the first list is in the second
 abbrev Within : List ℕ → List ℕ → Type 0

@@ -12,9 +12,10 @@ use Rattle.fp_model.specs.Serial.{Ending, refused_as, settled_as}
 use Rattle.fp_model.specs.Waiting.{Lock, is_blocked, waits, with_request}
 use Rattle.fp_model.specs.Machine.{Transaction, Region, Idle, Active, Machine}
 use Rattle.fp_model.specs.Turns.{NoFault, Act, Answers, Gains, Waits, Deadlocks, Retries_at_cycle, Finishes, Retries_at_verify, AreItemsFor, is_verify_failure, asks, wanted, ending_of, as_lock, Does, messages_for, begins_in, RegionTurn, Turn}
-use Rattle.serial_order.proofs.Lists.{tested, true_is_not_false}
+use Rattle.serial_order.proofs.Lists.{true_is_not_false}
 use Rattle.drain_laws.proofs.Cycles.{cycle_or_none}
-use Rattle.drain_laws.proofs.Live.{get_within}
+use Rattle.plain_laws.proofs.Places.{get_there}
+use Rattle.std.proofs.lemmas.Bool.{cases_Bool}
 
 -- no items are items of every outcome
 no_items : (o : Outcome) → AreItemsFor o []
@@ -48,7 +49,7 @@ module _ (rules : Rules) (m : Machine) (region : ℕ) (t : Transaction) where
   needs : (needed : Needed) → wanted rules m region t (asks rules t) ≡ Some needed → HasAct
   needs needed is =
       let l : Lock = as_lock rules region needed in
-      elim (tested (is_blocked m.locks l)) [
+      elim (cases_Bool (is_blocked m.locks l)) [
         | inr free ↦ (Gains needed, (_, (is, free, refl)))
         | inl blocked ↦ elim (cycle_or_none (waits (with_request l m.requests) m.locks) region) [
           | inl c ↦ elim (tries_left rules t) [
@@ -69,7 +70,7 @@ module _ (rules : Rules) (m : Machine) (region : ℕ) (t : Transaction) where
   ends : (ending : Ending) → wanted rules m region t (asks rules t) ≡ None
       → ending_of rules m.history.now t (asks rules t) ≡ Some ending
       → HasAct
-  ends ending free is = elim (tested (is_verify_failure ending.outcome)) [
+  ends ending free is = elim (cases_Bool (is_verify_failure ending.outcome)) [
     | inl fails ↦ elim (tries_left rules t) [
       | inl left ↦ (Retries_at_verify ending, (_, (record { lacks_none = free; ends = is }, fails, left, refl)))
       | inr none ↦ (
@@ -116,6 +117,6 @@ pub turn_there_is : (rules : Rules) (m : Machine) (region : ℕ) → 1 ≤ regio
     → (m2 : Machine) × Turn rules m (event.Region region) NoFault m2
 turn_there_is rules m zero low high = absurd (omega (arith, low))
 turn_there_is rules m (suc place) low high =
-    let found = get_within m.regions place (omega (arith, high)) in
+    let found = get_there m.regions place (omega (arith, high)) in
     let turn = region_turn_there_is rules m (suc place) found.0 in
     (turn.0, subst (λ (o : Option Region). RegionTurn rules m (suc place) o NoFault turn.0) (sym found.1) turn.1)

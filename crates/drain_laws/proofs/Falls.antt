@@ -18,12 +18,13 @@ use Rattle.fp_model.specs.Waiting.{Lock, held_as, is_blocked, without_region, wi
 use Rattle.fp_model.specs.Machine.{Transaction, Region, Idle, Active, Machine, region_at, with_region, ended_with, next_group, with_group, sealed_once}
 use Rattle.fp_model.specs.Turns.{Environment, NoFault, DeviceFault, OutOfMemory, Act, Answers, Gains, Waits, Deadlocks, Retries_at_cycle, Finishes, Retries_at_verify, asks, wanted, as_lock, with_answer, begun_in, tried_again, Does, queue_of_region, messages_for, begins_in, RegionTurn}
 use Rattle.serial_order.specs.Laws.{View, Laws}
-use Rattle.serial_order.proofs.Lists.{some_is, none_is_not_some}
 use Rattle.serial_order.proofs.Locks.{without_other}
 use Rattle.serial_order.proofs.Terminals.{sum_put}
 use Rattle.drain_laws.specs.Measure.{Gauge, unserved, call_weight, try_weight, left_of_try, region_weight, message_weight, held_weight, sum_places, messages_in, unsealed_in, work_inside}
 use Rattle.drain_laws.specs.Live.{IsStillNeeded, EndLaws, IsLive}
-use Rattle.drain_laws.proofs.Sums.{sum_changed, set_same, unserved_within, unserved_same, unserved_fewer, gained_serves, gained_more, gained_other}
+use Rattle.drain_laws.proofs.Sums.{sum_changed, unserved_within, unserved_same, unserved_fewer, gained_serves, gained_more, gained_other}
+use Rattle.std.proofs.lemmas.Option.{none-some, same_Some}
+use Rattle.plain_laws.proofs.Places.{set_same}
 
 -- ---- numbers
 
@@ -79,11 +80,11 @@ module _ (rules : Rules) (gauge : Gauge) (laws : EndLaws rules gauge) where
           → option_map (λ (resource : Resource). let n : Needed = record { resource = resource; mode = Exclusive } in
           n) o ≡ Some needed
           → IsStillNeeded (gauge.locks t.point.own (Replies reply)) (held_as m.locks region) needed
-      from None is e = absurd (none_is_not_some needed e)
+      from None is e = absurd (none-some needed e)
       from (Some r) is e =
           subst (λ (q : Needed). IsStillNeeded (gauge.locks t.point.own (Replies reply)) (held_as m.locks region) q)
-          (some_is _ needed e) (laws.lacks t.point.own (held_as m.locks region) reply r is)
-  still_needed m region t (Rolls code) needed w = absurd (none_is_not_some needed w)
+          (same_Some _ needed e) (laws.lacks t.point.own (held_as m.locks region) reply r is)
+  still_needed m region t (Rolls code) needed w = absurd (none-some needed w)
 
   -- a try that begins is at most a whole one
   begun_within : (m : Machine) (message : Message) (tries : ℕ) (held : Resource → Option Mode)

@@ -1,6 +1,6 @@
 -- The locks that this system's calls ask for are those foreseen, and there are few of them.
 use Rattle.std.proofs.Common.{◌≡◌, ℕ, zero, suc, ◌+◌, ◌-◌, ◌≤◌, List, [], ◌∷◌, ◌++◌, length, map, Option, Some, None, refl, sym, subst, Bool, true, false, not, ◌||◌, arith, if◌then◌else◌, slice_get, length-append}
-use Rattle.std.specs.Prelude.{is_some, find, nat_lt, codes, option_map}
+use Rattle.std.specs.Prelude.{is_some, nat_lt, codes, option_map}
 use Rattle.std.specs.List.{Contains, AllByRecursion}
 use Rattle.std.specs.Option.{option_map_or}
 use Rattle.std.proofs.lemmas.List.{length-map}
@@ -20,7 +20,7 @@ use Rattle.fp_model.specs.declared.calls.Mode.{Mode}
 use Rattle.fp_model.specs.declared.calls.Mode.TheVariants.{Exclusive}
 use Rattle.fp_model.specs.declared.calls.Resource.{Resource}
 use Rattle.fp_model.specs.declared.calls.Resource.TheVariants.{Segment, Anchor}
-use Rattle.fp_model.specs.State.{numbers_up, anchor_count, key_of, segment_of, segment_after}
+use Rattle.fp_model.specs.State.{anchor_count, key_of, segment_of, segment_after}
 use Rattle.fp_model.specs.Exits.{anchor_of}
 use Rattle.fp_model.specs.Settle.{comes_before, with_resource, resources}
 use Rattle.fp_model.specs.Commit.{lacking}
@@ -34,17 +34,18 @@ use Rattle.fp_model.specs.MsdbCalls as msdb
 use Rattle.fp_model.specs.DedbCalls as dedb
 use Rattle.fp_model.specs.Calls.{Target, OnMsdb, OnDedb, Nowhere, database_of, target_of, dedb_target, need_on, need_of, reply_on, reply_to, msdb_at}
 use Rattle.fp_model.specs.WellFormed.{IsDedbDef}
-use Rattle.serial_order.proofs.Lists.{some_is, none_is_not_some, contains_first, contains_later, map_contains}
-use Rattle.serial_order.proofs.Covers.{found_passes}
 use Rattle.drain_laws.specs.Live.{IsStillNeeded}
 use Rattle.drain_laws.specs.ProductGauge.{dedb_locks, call_locks, exclusive, locks_for}
+use Rattle.plain_laws.proofs.Alls.{contains_first, contains_later, found_is_there, found_passes, map_contains}
+use Rattle.std.proofs.lemmas.Option.{none-some, same_Some}
+use Rattle.model_laws.proofs.Numberings.{numbers_length}
 
 -- ---- what is asked for is foreseen
 
 -- the first anchor without its lock is one of those searched
 first_is_one : (is_locked : ℕ → Bool) (look : ℕ → Option Occurrence) (anchors : List ℕ) (anchor : ℕ)
     → dedb.first_unlocked is_locked look anchors ≡ Some anchor → Contains anchors anchor × (is_locked anchor ≡ false)
-first_is_one is_locked look [] anchor e = absurd (none_is_not_some anchor e)
+first_is_one is_locked look [] anchor e = absurd (none-some anchor e)
 first_is_one is_locked look (a ∷ rest) anchor e = at (is_locked a) refl (is_some (look a)) e
     (λ f. first_is_one is_locked look rest anchor f)
   where
@@ -53,11 +54,11 @@ first_is_one is_locked look (a ∷ rest) anchor e = at (is_locked a) refl (is_so
         → (dedb.first_unlocked is_locked look rest ≡ Some anchor → Contains rest anchor × (is_locked anchor ≡ false))
         → Contains (a ∷ rest) anchor × (is_locked anchor ≡ false)
     at false is found e later = (
-      subst (λ (q : ℕ). Contains (a ∷ rest) q) (some_is a anchor e)
+      subst (λ (q : ℕ). Contains (a ∷ rest) q) (same_Some a anchor e)
           (contains_first a rest),
-      subst (λ (q : ℕ). is_locked q ≡ false) (some_is a anchor e) is,
+      subst (λ (q : ℕ). is_locked q ≡ false) (same_Some a anchor e) is,
     )
-    at true is true e later = absurd (none_is_not_some anchor e)
+    at true is true e later = absurd (none-some anchor e)
     at true is false e later = let r = later e in (contains_later a rest anchor r.0, r.1)
 
 module _ (held : Resource → Option Mode) (needed : Needed) where
@@ -67,8 +68,8 @@ module _ (held : Resource → Option Mode) (needed : Needed) where
     where
       by : (b : Bool) → serves (held n.resource) n.mode ≡ b → (if b then None else Some n) ≡ Some needed
           → IsStillNeeded (n ∷ []) held needed
-      by true is f = absurd (none_is_not_some needed f)
-      by false is f = let same = some_is n needed f in record {
+      by true is f = absurd (none-some needed f)
+      by false is f = let same = same_Some n needed f in record {
         is_among = subst (λ (q : Needed). Contains (n ∷ []) q) same (contains_first n []);
         is_unserved = subst (λ (q : Needed). serves (held q.resource) q.mode ≡ false) same is;
       }
@@ -76,18 +77,18 @@ module _ (held : Resource → Option Mode) (needed : Needed) where
   -- behind what there may be
   maybe_needed : (o : Option Needed) → option_map_or (unless_held held) o None ≡ Some needed
       → IsStillNeeded (option_map_or (λ n. n ∷ []) o []) held needed
-  maybe_needed None e = absurd (none_is_not_some needed e)
+  maybe_needed None e = absurd (none-some needed e)
   maybe_needed (Some n) e = unless_needed n e
 
   -- behind a test
   if_needed : (locks : List Needed) (b : Bool) (o : Option Needed) → (if b then o else None) ≡ Some needed
       → (o ≡ Some needed → IsStillNeeded locks held needed) → IsStillNeeded locks held needed
   if_needed locks true o e h = h e
-  if_needed locks false o e h = absurd (none_is_not_some needed e)
+  if_needed locks false o e h = absurd (none-some needed e)
 
   if_not_needed : (locks : List Needed) (b : Bool) (o : Option Needed) → (if b then None else o) ≡ Some needed
       → (o ≡ Some needed → IsStillNeeded locks held needed) → IsStillNeeded locks held needed
-  if_not_needed locks true o e h = absurd (none_is_not_some needed e)
+  if_not_needed locks true o e h = absurd (none-some needed e)
   if_not_needed locks false o e h = h e
 
   module _ (def : DedbDef) (number : ℕ) where
@@ -95,7 +96,7 @@ module _ (held : Resource → Option Mode) (needed : Needed) where
     place_needed : (o : Option Place) → dedb.held_need def number held o ≡ Some needed
         → IsStillNeeded (option_map_or (λ place. dedb.anchor_lock def number Exclusive place.anchor ∷ []) o []) held
         needed
-    place_needed None e = absurd (none_is_not_some needed e)
+    place_needed None e = absurd (none-some needed e)
     place_needed (Some place) e = unless_needed (dedb.anchor_lock def number Exclusive place.anchor) e
 
     -- calls to a data entry database
@@ -120,16 +121,16 @@ module _ (held : Resource → Option Mode) (needed : Needed) where
         from : (o : Option ℕ) → dedb.first_unlocked is_locked look anchors ≡ o
             → option_map (λ (anchor : ℕ). dedb.anchor_lock def number mode anchor) o ≡ Some needed
             → IsStillNeeded (map (dedb.anchor_lock def number mode) anchors) held needed
-        from None is f = absurd (none_is_not_some needed f)
+        from None is f = absurd (none-some needed f)
         from (Some a) is f =
             let one = first_is_one is_locked look anchors a is in
-            let same = some_is (dedb.anchor_lock def number mode a) needed f in
+            let same = same_Some (dedb.anchor_lock def number mode a) needed f in
             record {
               is_among = subst (λ (q : Needed). Contains (map (dedb.anchor_lock def number mode) anchors) q) same
                   (map_contains (dedb.anchor_lock def number mode) anchors a one.0);
               is_unserved = subst (λ (q : Needed). serves (held q.resource) q.mode ≡ false) same one.1;
             }
-    dedb_needed db own (call.Fld n key fsas) e = absurd (none_is_not_some needed e)
+    dedb_needed db own (call.Fld n key fsas) e = absurd (none-some needed e)
     dedb_needed db own (call.Isrt n ssas bytes) e = if_needed _ (dedb.are_insert_arguments def number ssas) _ e
         (λ f. unless_needed _ f)
     dedb_needed db own (call.Repl n bytes) e = place_needed (dedb.held_place def number own) e
@@ -140,22 +141,12 @@ module _ (held : Resource → Option Mode) (needed : Needed) where
       → need_on target db own held c ≡ Some needed → IsStillNeeded (call_locks target own c) held needed
   target_needed (OnMsdb def number) db own c e = maybe_needed (msdb.msdb_need def number own c) e
   target_needed (OnDedb def number) db own c e = dedb_needed def number db own c e
-  target_needed Nowhere db own c e = absurd (none_is_not_some needed e)
+  target_needed Nowhere db own c e = absurd (none-some needed e)
 
   pub call_needed : (defs : Defs) (db : Db) (own : Workspace) (c : Call) → need_of defs db own held c ≡ Some needed
       → IsStillNeeded (locks_for defs own (Asks c)) held needed
   unfolding need_of
   call_needed defs db own c e = target_needed (target_of defs (database_of c)) db own c e
-
--- what is found is there
-found_is_there : {X : Type 0} (p : X → Bool) (xs : List X) (x : X) → find p xs ≡ Some x → Contains xs x
-found_is_there p [] x e = absurd (none_is_not_some x e)
-found_is_there p (y ∷ ys) x e = by (p y) e (λ f. found_is_there p ys x f)
-  where
-    by : (b : Bool) → (if b then Some y else find p ys) ≡ Some x → (find p ys ≡ Some x → Contains ys x)
-        → Contains (y ∷ ys) x
-    by true f later = subst (λ q. Contains (y ∷ ys) q) (some_is y x f) (contains_first y ys)
-    by false f later = contains_later y ys x (later f)
 
 -- at the end
 pub end_needed : (defs : Defs) (own : Workspace) (held : Resource → Option Mode) (reply : List ℕ)
@@ -174,11 +165,6 @@ end_needed defs own held reply resource e = record {
     negated false e = refl
 
 -- ---- how many there are
-
--- numbers in turn
-numbers_length : (n from : ℕ) → length (numbers_up n from) ≡ n
-numbers_length zero from = refl
-numbers_length (suc n) from = let rest = numbers_length n (from + 1) in omega (arith, rest)
 
 -- a resource more
 one_resource : (r : Resource) (rs : List Resource) → length (with_resource r rs) ≤ length rs + 1
@@ -251,8 +237,8 @@ module _ (def : DedbDef) (number : ℕ) (bounded : anchor_count def ≤ 65536) w
 -- an element at a place is one of all
 all_at : {X : Type 0} (P : X → Type 0) (xs : List X) (i : ℕ) (x : X) → AllByRecursion P xs → slice_get xs i ≡ Some x
     → P x
-all_at P [] i x h e = absurd (none_is_not_some x e)
-all_at P (y ∷ ys) zero x h e = subst P (some_is y x e) h.0
+all_at P [] i x h e = absurd (none-some x e)
+all_at P (y ∷ ys) zero x h e = subst P (same_Some y x e) h.0
 all_at P (y ∷ ys) (suc i) x h e = all_at P ys i x h.1 e
 
 module _ (defs : Defs) (each : AllByRecursion IsDedbDef defs.dedbs) where

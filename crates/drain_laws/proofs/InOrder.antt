@@ -20,11 +20,13 @@ use Rattle.fp_model.specs.Turns.{Environment, NoFault, DeviceFault, OutOfMemory,
 use Rattle.fp_model.specs.Runs.{RunStep, Runs}
 use Rattle.serial_order.specs.Laws.{View, Laws}
 use Rattle.serial_order.specs.Kept.{HaveNoCycle, Kept}
-use Rattle.serial_order.proofs.Lists.{none_is_not_some, mapped_to}
+use Rattle.serial_order.proofs.Lists.{mapped_to}
 use Rattle.serial_order.proofs.Waits.{ended_waits, gained_waits, asked_waits, no_locks}
 use Rattle.serial_order.proofs.Terminals.{sealed_below}
 use Rattle.drain_laws.specs.Live.{IsInOrder}
-use Rattle.drain_laws.proofs.Live.{same_region, at_work, idle_is_not, is_transaction}
+use Rattle.drain_laws.proofs.Live.{same_region, at_work, idle_is_not}
+use Rattle.serial_order.proofs.Kept.{is_transaction}
+use Rattle.std.proofs.lemmas.Option.{none-some}
 
 module _ (rules : Rules) where
   -- it has asked no more than it may
@@ -230,7 +232,7 @@ module _ (rules : Rules) where
   }
     where
       nobody : (region : ℕ) (t : Transaction) → ¬ (region_at (at_rest rules lines h) region ≡ Some (Active t))
-      nobody zero t e = none_is_not_some _ e
+      nobody zero t e = none-some _ e
       nobody (suc place) t e = idle_is_not t (sym (mapped_to rules.regions place Idle (Active t) e))
 
   -- What keeps the serial order has it.

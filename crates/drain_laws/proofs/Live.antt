@@ -1,9 +1,9 @@
 -- Each turn keeps that nothing waits for what can't come.
-use Rattle.std.proofs.Common.{◌≡◌, ℕ, zero, suc, ◌+◌, ◌-◌, ◌<◌, ◌≤◌, List, [], ◌∷◌, ◌++◌, length, Option, Some, None, ◌⊎◌, inl, inr, refl, sym, ◌∙◌, ap, subst, Bool, true, false, not, nat_eq, arith, if◌then◌else◌, slice_get, slice_set, length-append}
+use Rattle.std.proofs.Common.{◌≡◌, ℕ, zero, suc, ◌+◌, ◌-◌, ◌<◌, ◌≤◌, List, [], ◌∷◌, ◌++◌, length, Option, Some, None, ◌⊎◌, inl, inr, refl, sym, ◌∙◌, ap, subst, Bool, true, false, not, arith, if◌then◌else◌, slice_get, slice_set, length-append}
 use Rattle.std.specs.Prelude.{unwrap_or, drop, nat_lt, sum_by}
 use Rattle.std.specs.List.{Contains, list_any}
 use Rattle.std.specs.Option.{option_map_or}
-use Rattle.std.proofs.lemmas.Bool.{cases_eq}
+use Rattle.std.proofs.lemmas.Bool.{cases_eq, cases_Bool}
 use Rattle.std.proofs.lemmas.List.{length-set, length-replicate, length-map}
 use Rattle.std.proofs.lemmas.List.Elements.{Contains-append_left, Contains-append_right, Contains-append_cases}
 use Rattle.std.proofs.lemmas.List.Sums.{sum_by-cons, sum_by_push}
@@ -24,44 +24,26 @@ use Rattle.fp_model.specs.Machine.{Transaction, Region, Idle, Active, Machine, a
 use Rattle.fp_model.specs.Turns.{Environment, NoFault, DeviceFault, OutOfMemory, Act, Answers, Gains, Waits, Deadlocks, Retries_at_cycle, Finishes, Retries_at_verify, with_answer, begun_in, tried_again, Does, queue_of_region, begins_in, RegionTurn, is_area_held, PurgeTurn, Turn}
 use Rattle.serial_order.specs.Laws.{View, Laws}
 use Rattle.serial_order.specs.Kept.{line_count, queued_count, count}
-use Rattle.serial_order.proofs.Lists.{none_is_not_some, true_is_not_false, tested, put_cases, contains_nothing, contains_cases, contains_in_filter, eqb_same, mapped_to}
+use Rattle.serial_order.proofs.Lists.{true_is_not_false, put_cases, contains_in_filter, mapped_to}
 use Rattle.serial_order.proofs.Terminals.{contained, among, sum_put, counts_one, counts_none, region_put, unsealed_more, seals}
 use Rattle.drain_laws.specs.Measure.{Gauge}
 use Rattle.drain_laws.specs.Live.{EndLaws, IsAtWork, IsLive}
+use Rattle.plain_laws.proofs.Alls.{contains_cases, contains_nothing}
+use Rattle.plain_laws.proofs.Places.{get_there as get_within, set_here}
+use Rattle.serial_order.proofs.Kept.{is_transaction}
+use Rattle.std.proofs.lemmas.Option.{none-some}
+use Rattle.serial_order.proofs.Waits.{others_only}
 
 -- ---- lists
-
--- what stands at the place written
-pub get_here : {X : Type 0} (xs : List X) (i : ℕ) (x y : X) → slice_get xs i ≡ Some x
-    → slice_get (slice_set xs i y) i ≡ Some y
-get_here [] i x y is = absurd (none_is_not_some x is)
-get_here (z ∷ zs) zero x y is = refl
-get_here (z ∷ zs) (suc i) x y is = get_here zs i x y is
 
 -- and at others
 pub get_there : {X : Type 0} (xs : List X) (i j : ℕ) (x y : X) → ¬ (j ≡ i) → slice_get xs j ≡ Some x
     → slice_get (slice_set xs i y) j ≡ Some x
-get_there [] i j x y ne is = absurd (none_is_not_some x is)
+get_there [] i j x y ne is = absurd (none-some x is)
 get_there (z ∷ zs) zero zero x y ne is = absurd (ne refl)
 get_there (z ∷ zs) zero (suc j) x y ne is = is
 get_there (z ∷ zs) (suc i) zero x y ne is = is
 get_there (z ∷ zs) (suc i) (suc j) x y ne is = get_there zs i j x y (λ e. ne (ap (λ (k : ℕ). suc k) e)) is
-
--- something stands within a list
-pub get_within : {X : Type 0} (xs : List X) (i : ℕ) → i < length xs → (x : X) × (slice_get xs i ≡ Some x)
-get_within [] i h = absurd (omega (arith, h))
-get_within (x ∷ xs) zero h = (x, refl)
-get_within (x ∷ xs) (suc i) h = get_within xs i (omega (arith, h))
-
--- the locks of the others
-pub others_locks : (region : ℕ) (locks : List Lock) (lock : Lock) → Contains (without_region region locks) lock
-    → Contains locks lock × ¬ (lock.region ≡ region)
-others_locks region locks lock c =
-    let kept = contains_in_filter (λ (l : Lock). not (nat_eq l.region region)) locks lock c in (
-      kept.0,
-      λ e. true_is_not_false (sym kept.1
-          ∙ ap not (subst (λ (q : ℕ). nat_eq q region ≡ true) (sym e) (eqb_same region))),
-    )
 
 -- a name of joined lists
 pub among_either : (a b : List Name) (name : Name) → is_among (a ++ b) name ≡ true
@@ -91,7 +73,7 @@ pub other_region : (m m2 : Machine) (place region : ℕ) (r : Region) (t : Trans
     → ¬ (region ≡ suc place)
     → region_at m region ≡ Some (Active t)
     → region_at m2 region ≡ Some (Active t)
-other_region m m2 place zero r t put ne is = absurd (none_is_not_some (Active t) is)
+other_region m m2 place zero r t put ne is = absurd (none-some (Active t) is)
 other_region m m2 place (suc q) r t put ne is =
     ap (λ (rs : List Region). slice_get rs q) put
     ∙ get_there m.regions place q (Active t) r (λ e. ne (ap (λ (k : ℕ). suc k) e)) is
@@ -101,7 +83,7 @@ pub at_work : (m m2 : Machine) (place region : ℕ) (r : Region) (u : Transactio
     → m2.regions ≡ slice_set m.regions place r
     → region_at m2 region ≡ Some (Active u)
     → (r ≡ Active u) ⊎ (region_at m region ≡ Some (Active u))
-at_work m m2 place zero r u put is = absurd (none_is_not_some (Active u) is)
+at_work m m2 place zero r u put is = absurd (none-some (Active u) is)
 at_work m m2 place (suc q) r u put is =
     elim (put_cases m.regions place q r (Active u) (ap (λ (rs : List Region). slice_get rs q) (sym put) ∙ is)) [
       | inl w ↦ inl (sym w.1)
@@ -110,9 +92,6 @@ at_work m m2 place (suc q) r u put is =
 
 pub idle_is_not : (t : Transaction) → ¬ (Idle ≡ Active t)
 idle_is_not t e = cc
-
-pub is_transaction : (t u : Transaction) → Active t ≡ Active u → t ≡ u
-is_transaction t u e = cc
 
 module _ (rules : Rules) (gauge : Gauge) where
   -- each busy terminal has something that will be answered
@@ -165,7 +144,7 @@ module _ (rules : Rules) (gauge : Gauge) where
       (is_transaction u v same) few) s
     where
       here : region_at m2 (suc place) ≡ Some (Active u)
-      here = ap (λ (rs : List Region). slice_get rs place) regions ∙ get_here m.regions place old (Active u) is
+      here = ap (λ (rs : List Region). slice_get rs place) regions ∙ set_here m.regions place old (Active u) is
 
       mine : (region : ℕ) → region ≡ suc place → IsAtWork m2 region
       mine region same =
@@ -192,7 +171,7 @@ module _ (rules : Rules) (gauge : Gauge) where
   ends m place t e next is same sealed s =
       let m2 : Machine = ended_with (suc place) e next m in
       put m m2 place Idle refl refl
-      (λ lock c. (let kept = others_locks (suc place) m.locks lock c in let a = s.holders lock kept.0 in
+      (λ lock c. (let kept = others_only (suc place) m.locks lock c in let a = s.holders lock kept.0 in
       record { t = a.t; stands = other_region m m2 place lock.region Idle a.t refl kept.1 a.stands }))
       (λ name busy. (let line : line_count rules name e.line
       ≡ line_count rules name t.message.line = ap (line_count rules name) same in
@@ -223,7 +202,7 @@ module _ (rules : Rules) (gauge : Gauge) where
   retries m place t is none s =
       let u : Transaction = begun_in rules m t.message (t.tries + 1) in
       put_active m (tried_again rules (suc place) t m) place (Active t) u is refl refl
-      (λ lock c. inr (others_locks (suc place) m.locks lock c).0)
+      (λ lock c. inr (others_only (suc place) m.locks lock c).0)
       (λ name busy. omega (arith, region_put rules name m place (Active t) (Active u) is, s.waits name busy))
       (omega (arith, none)) s
 
@@ -294,7 +273,7 @@ module _ (rules : Rules) (gauge : Gauge) where
           → queued_count rules name
           (option_map_or (λ (messages : List Message). slice_set queues queue (messages ++ message ∷ [])) o queues)
           ≡ queued_count rules name queues + line_count rules name message.line
-      by None is = (let found = get_within queues queue within in absurd (none_is_not_some found.0 (sym is ∙ found.1)))
+      by None is = (let found = get_within queues queue within in absurd (none-some found.0 (sym is ∙ found.1)))
       by (Some messages) is =
           omega (
             arith,
@@ -345,11 +324,11 @@ module _ (rules : Rules) (gauge : Gauge) where
   none_told (d ∷ group) name e =
       let of : Entry → ℕ = λ (x : Entry). line_count rules name x.line in
       let names : List Name = terminal_in (rules.terminal_of d.line) in
-      let first : is_among names name ≡ false = elim (tested (is_among names name)) [
+      let first : is_among names name ≡ false = elim (cases_Bool (is_among names name)) [
         | inl is ↦ absurd (true_is_not_false (sym (among_left names (told rules group) name is) ∙ e))
         | inr isnt ↦ isnt
       ] in
-      let later : is_among (told rules group) name ≡ false = elim (tested (is_among (told rules group) name)) [
+      let later : is_among (told rules group) name ≡ false = elim (cases_Bool (is_among (told rules group) name)) [
         | inl is ↦ absurd (true_is_not_false (sym (among_right names (told rules group) name is) ∙ e))
         | inr isnt ↦ isnt
       ] in
@@ -523,5 +502,5 @@ module _ (rules : Rules) (gauge : Gauge) where
   }
     where
       nobody : (region : ℕ) (t : Transaction) → ¬ (region_at (at_rest rules lines h) region ≡ Some (Active t))
-      nobody zero t e = none_is_not_some _ e
+      nobody zero t e = none-some _ e
       nobody (suc place) t e = idle_is_not t (sym (mapped_to rules.regions place Idle (Active t) e))

@@ -15,7 +15,7 @@ use Rattle.fp_model.proofs.FrameLemmas.{turn_keeps as turn_leaves}
 use Rattle.fp_model.proofs.RunLemmas.{last_machine}
 use Rattle.serial_order.specs.Laws.{View, Laws}
 use Rattle.serial_order.specs.Kept.{HaveNoCycle}
-use Rattle.serial_order.proofs.Lists.{eqb_other, contains_first, contains_later, filter_contains}
+use Rattle.serial_order.proofs.Lists.{eqb_other, filter_contains}
 use Rattle.drain_laws.specs.Measure.{Gauge, line_weight, work_inside, work_with, work_left}
 use Rattle.drain_laws.specs.Live.{EndLaws, IsReached}
 use Rattle.drain_laws.specs.Rounds.{GoesRound, GoesRounds, RoundMoves, ReadsLine, HasLess}
@@ -24,6 +24,7 @@ use Rattle.drain_laws.proofs.Lines.{InMoves, Reads, Takes_held, Is_stuck, Has_no
 use Rattle.drain_laws.proofs.Live.{same_region, frame, turn_live}
 use Rattle.drain_laws.proofs.InOrder.{ordered_alike, turn_ordered}
 use Rattle.drain_laws.proofs.Stands.{Rests, Idles, Waits_for, IsStill, no_line_waits, is_drained}
+use Rattle.plain_laws.proofs.Alls.{contains_first, contains_later}
 
 -- ---- steps
 

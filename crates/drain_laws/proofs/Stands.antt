@@ -5,7 +5,7 @@ use Rattle.std.specs.List.{Contains, list_any, list_all}
 use Rattle.std.proofs.lemmas.Bool.{cases_eq}
 use Rattle.std.proofs.lemmas.List.{drop_all}
 use Rattle.std.proofs.lemmas.List.Sums.{sum_by-cons}
-use Rattle.std.proofs.lemmas.Option.{slice_get_within}
+use Rattle.std.proofs.lemmas.Option.{slice_get_within, none-some, same_Some}
 use Rattle.fp_model.specs.declared.calls.Message.{Message}
 use Rattle.fp_model.specs.declared.log.Entry.{Entry}
 use Rattle.fp_model.specs.declared.name.Name.{Name}
@@ -17,11 +17,12 @@ use Rattle.fp_model.specs.Machine.{Transaction, Region, Idle, Active, Machine, r
 use Rattle.fp_model.specs.Turns.{queue_of_region, messages_for}
 use Rattle.fp_model.specs.Runs.{is_idle, is_empty, IsDrained}
 use Rattle.serial_order.specs.Kept.{line_count, region_count, queued_count, active_count, unsealed_count, HaveNoCycle}
-use Rattle.serial_order.proofs.Lists.{some_is, none_is_not_some, true_is_not_false, contains_first, contains_later, filter_contains, map_contains, flat_map_contains}
+use Rattle.serial_order.proofs.Lists.{true_is_not_false, filter_contains}
 use Rattle.drain_laws.specs.Measure.{Gauge}
 use Rattle.drain_laws.specs.Live.{EndLaws, IsAtWork, IsLive}
 use Rattle.drain_laws.proofs.Walk.{cycle_of}
 use Rattle.drain_laws.proofs.Lines.{has_to_wait}
+use Rattle.plain_laws.proofs.Alls.{contains_first, contains_later, flat_map_contains, map_contains}
 
 -- ---- lists
 
@@ -81,7 +82,7 @@ module _ (rules : Rules) (gauge : Gauge) (laws : EndLaws rules gauge) where
   is_one : (m : Machine) (region : ℕ) (t : Transaction) → IsLive rules gauge m
       → region_at m region ≡ Some (Active t)
       → (1 ≤ region) × (region < 1 + length rules.regions)
-  is_one m zero t s is = absurd (none_is_not_some (Active t) is)
+  is_one m zero t s is = absurd (none-some (Active t) is)
   is_one m (suc place) t s is =
       (omega arith, omega (arith, slice_get_within m.regions place (Active t) is, s.regions))
 
@@ -96,7 +97,7 @@ module _ (rules : Rules) (gauge : Gauge) (laws : EndLaws rules gauge) where
       where
         by : Rests m requests region
             → (other : ℕ) × (IsAtWork m other × Contains (waits requests m.locks) (region, other))
-        by (Idles idle nothing) = absurd (idle_is_not a.t (some_is Idle (Active a.t) (sym idle ∙ a.stands)))
+        by (Idles idle nothing) = absurd (idle_is_not a.t (same_Some Idle (Active a.t) (sym idle ∙ a.stands)))
         by (Waits_for wanted stands of blocked) =
             let found = some_passes (conflicts wanted) m.locks blocked in
             let behind = map_contains (λ (l : Lock). (wanted.region, l.region)) (filter (conflicts wanted) m.locks)

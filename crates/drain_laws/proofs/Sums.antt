@@ -1,14 +1,17 @@
 -- Sums over the places of a list, and counts of locks.
-use Rattle.std.proofs.Common.{◌≡◌, ℕ, zero, suc, ◌+◌, ◌<◌, ◌≤◌, List, [], ◌∷◌, length, Option, Some, None, inl, inr, refl, sym, ap, subst, Bool, true, false, ◌&&◌, nat_eq, arith, if◌then◌else◌, slice_get, slice_set}
+use Rattle.std.proofs.Common.{◌≡◌, ℕ, zero, suc, ◌+◌, ◌<◌, ◌≤◌, List, [], ◌∷◌, length, Option, Some, None, inl, inr, refl, sym, subst, Bool, true, false, ◌&&◌, nat_eq, arith, if◌then◌else◌, slice_get, slice_set}
 use Rattle.std.specs.List.{Contains}
 use Rattle.fp_model.specs.declared.calls.Mode.{Mode}
 use Rattle.fp_model.specs.declared.calls.Mode.TheVariants.{Share, Exclusive}
 use Rattle.fp_model.specs.declared.calls.Resource.{Resource}
 use Rattle.fp_model.specs.Answers.{Needed, serves}
 use Rattle.fp_model.specs.Waiting.{Lock, held_as, same_resource}
-use Rattle.serial_order.proofs.Lists.{some_is, none_is_not_some, true_is_not_false, eqb_same, eqb_other, contains_nothing, contains_cases}
-use Rattle.serial_order.proofs.Locks.{both_right, same_resource_is, resource_is_same}
+use Rattle.serial_order.proofs.Lists.{true_is_not_false, eqb_same, eqb_other}
 use Rattle.drain_laws.specs.Measure.{sum_places, unserved}
+use Rattle.plain_laws.proofs.Truths.{second_of_both}
+use Rattle.plain_laws.proofs.Alls.{contains_cases, contains_nothing}
+use Rattle.std.proofs.lemmas.Option.{none-some, same_Some}
+use Rattle.model_laws.proofs.Resources.{resource_is_same, same_resources}
 
 -- ---- sums
 
@@ -28,10 +31,10 @@ pub sum_changed : {X : Type 0} (v w : ℕ → X → ℕ) (from : ℕ) (xs : List
     → ((at : ℕ) → at ≡ from + i → v at y + less ≤ w at x + more)
     → ((j at : ℕ) (z : X) → ¬ (j ≡ i) → at ≡ from + j → slice_get xs j ≡ Some z → v at z ≤ w at z)
     → sum_places v from (slice_set xs i y) + less ≤ sum_places w from xs + more
-sum_changed v w from [] i x y less more is here others = absurd (none_is_not_some x is)
+sum_changed v w from [] i x y less more is here others = absurd (none-some x is)
 sum_changed v w from (z ∷ zs) zero x y less more is here others =
     let first : v from y + less ≤ w from z + more = subst (λ q. v from y + less ≤ w from q + more)
-    (sym (some_is z x is)) (here from (omega arith)) in
+    (sym (same_Some z x is)) (here from (omega arith)) in
     let rest = sum_least v w (from + 1) zs (λ j at q e there. others (suc j) at q
     (λ same. absurd (omega (arith, same))) (omega (arith, e)) there) in
     omega (arith, first, rest)
@@ -40,12 +43,6 @@ sum_changed v w from (z ∷ zs) (suc i) x y less more is here others =
     let rest = sum_changed v w (from + 1) zs i x y less more is (λ at e. here at (omega (arith, e)))
     (λ j at q ne e there. others (suc j) at q (λ same. ne (omega (arith, same))) (omega (arith, e)) there) in
     omega (arith, first, rest)
-
--- what stands there, put there again
-pub set_same : {X : Type 0} (xs : List X) (i : ℕ) (x : X) → slice_get xs i ≡ Some x → slice_set xs i x ≡ xs
-set_same [] i x is = absurd (none_is_not_some x is)
-set_same (y ∷ ys) zero x is = ap (λ q. q ∷ ys) (sym (some_is y x is))
-set_same (y ∷ ys) (suc i) x is = ap (λ q. y ∷ q) (set_same ys i x is)
 
 -- ---- locks not held
 
@@ -139,7 +136,7 @@ gained_more l locks new r mode served = by (nat_eq l.region l.region && same_res
     by : (b : Bool) → (nat_eq l.region l.region && same_resource l.resource r) ≡ b
         → serves (if b then Some l.mode else held_as locks l.region r) mode ≡ true
     by true is =
-        let same : l.resource ≡ r = same_resource_is l.resource r (both_right _ _ is) in
+        let same : l.resource ≡ r = same_resources l.resource r (second_of_both _ _ is) in
         let before : serves (held_as locks l.region l.resource) mode ≡ true = subst
         (λ (q : Resource). serves (held_as locks l.region q) mode ≡ true) (sym same) served in
         stronger (held_as locks l.region l.resource) l.mode mode new before

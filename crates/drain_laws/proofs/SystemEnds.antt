@@ -21,12 +21,14 @@ use Rattle.fp_model.specs.WellFormed.{Between, AreDefs}
 use Rattle.fp_exits.specs.Ranges.{AreBytes}
 use Rattle.fp_exits.proofs.SpreadLemmas.{group_below}
 use Rattle.serial_order.proofs.Lines.{accepts, fair_line, error_is_not_ok}
-use Rattle.serial_order.proofs.Lists.{some_is, none_is_not_some, contains_nothing, contains_first, contains_later, contains_cases}
-use Rattle.serial_order.proofs.Locks.{both_left, both_right}
 use Rattle.drain_laws.specs.Live.{IsServed, EndLaws}
 use Rattle.drain_laws.specs.Measure.{line_weight}
 use Rattle.drain_laws.specs.ProductGauge.{gauge_with, gauge_of, weight_of_line}
 use Rattle.drain_laws.proofs.Foreseen.{call_needed, end_needed, locks_few, replies_queue}
+use Rattle.plain_laws.proofs.Truths.{first_of_both, second_of_both}
+use Rattle.plain_laws.proofs.Alls.{contains_cases, contains_first, contains_later, contains_nothing}
+use Rattle.plain_laws.proofs.Lists.{greatest_from}
+use Rattle.std.proofs.lemmas.Option.{none-some, same_Some}
 
 -- ---- groups
 
@@ -51,11 +53,6 @@ stands_at (y ∷ ys) x c = elim (contains_cases y ys x c) [
   | inl same ↦ (0, (omega arith, ap (λ q. Some q) same))
   | inr there ↦ let r = stands_at ys x there in (suc r.0, (omega (arith, r.1.0), r.1.1))
 ]
-
--- and none is below where it began
-greatest_from : (groups : List ℕ) (most : ℕ) → most ≤ fold max most groups
-greatest_from [] most = omega arith
-greatest_from (g ∷ gs) most = let r = greatest_from gs (max most g) in omega (arith, r)
 
 module _ (defs : Defs) (scripts : List Script) (are : AreDefs defs) where
   -- each group has a region
@@ -97,16 +94,16 @@ blanks_are_bytes (suc n) (suc i) = blanks_are_bytes n i
 
 letters_are_bytes : (text : List ℕ) → list_all is_letter_or_digit text ≡ true → AreBytes text
 letters_are_bytes [] e i = omega arith
-letters_are_bytes (b ∷ bs) e zero = one b (both_left (is_letter_or_digit b) (list_all is_letter_or_digit bs) e)
+letters_are_bytes (b ∷ bs) e zero = one b (first_of_both (is_letter_or_digit b) (list_all is_letter_or_digit bs) e)
   where
     one : (b : ℕ) → is_letter_or_digit b ≡ true → b < 256
     one b e = grind (arith, common_steps, e)
 letters_are_bytes (b ∷ bs) e (suc i) =
-    letters_are_bytes bs (both_right (is_letter_or_digit b) (list_all is_letter_or_digit bs) e) i
+    letters_are_bytes bs (second_of_both (is_letter_or_digit b) (list_all is_letter_or_digit bs) e) i
 
 -- the last of four tests
 last_of_four : (a b c d : Bool) → (a && b && c && d) ≡ true → d ≡ true
-last_of_four a b c d f = both_right (a && b && c) d f
+last_of_four a b c d f = second_of_both (a && b && c) d f
 
 abbrev name_by : List ℕ → Name
 name_by text = record { 0 = padded 8 text }
@@ -121,8 +118,8 @@ name_bytes text name e = by (is_name text) refl e
         (nat_le (length text) 8) (is_letter (slice_index text 0)) (list_all is_letter_or_digit text) is in
         let padded_bytes = bytes_join text (replicate (8 - length text) 32) (letters_are_bytes text letters)
         (blanks_are_bytes (8 - length text)) in
-        subst (λ (n : Name). AreBytes n.0) (some_is (name_by text) name f) padded_bytes
-    by false is f = absurd (none_is_not_some name f)
+        subst (λ (n : Name). AreBytes n.0) (same_Some (name_by text) name f) padded_bytes
+    by false is f = absurd (none-some name f)
 
 -- the transaction of a message is that of its line
 tran_is : (line : List ℕ) (number : Option ℕ) (lterm tran : Option Name) (text : List ℕ) (message : Message)
@@ -152,11 +149,11 @@ tran_bytes scripts h line message e =
 -- what is found passes for all
 found_has : {X : Type 0} (P : X → Type 0) (p : X → Bool) (xs : List X) (x : X) → AllByRecursion P xs
     → find p xs ≡ Some x → P x
-found_has P p [] x h e = absurd (none_is_not_some x e)
+found_has P p [] x h e = absurd (none-some x e)
 found_has P p (y ∷ ys) x h e = by (p y) e (λ f. found_has P p ys x h.1 f)
   where
     by : (b : Bool) → (if b then Some y else find p ys) ≡ Some x → (find p ys ≡ Some x → P x) → P x
-    by true f later = subst P (some_is y x f) h.0
+    by true f later = subst P (same_Some y x f) h.0
     by false f later = later f
 
 -- no script costs more than a script may

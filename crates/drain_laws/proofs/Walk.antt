@@ -3,7 +3,8 @@ use Rattle.std.proofs.Common.{◌≡◌, ℕ, zero, suc, ◌<◌, ◌≤◌, Lis
 use Rattle.std.specs.List.{Contains, filter}
 use Rattle.std.proofs.lemmas.Bool.{cases_eq}
 use Rattle.fp_model.specs.Waiting.{WaitsAlong, IsCycle}
-use Rattle.serial_order.proofs.Lists.{eqb_same, eqb_other, contains_nothing, contains_first, contains_later, contains_cases, filter_contains}
+use Rattle.serial_order.proofs.Lists.{eqb_same, eqb_other, filter_contains}
+use Rattle.plain_laws.proofs.Alls.{contains_cases, contains_first, contains_later, contains_nothing}
 
 -- two chains, one behind the other
 joined : (pairs : List (ℕ × ℕ)) (a : ℕ) (bs : List ℕ) (b c : ℕ) → WaitsAlong pairs a bs b → Contains pairs (b, c)

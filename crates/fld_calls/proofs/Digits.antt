@@ -15,27 +15,6 @@ use Rattle.packed_dec.proofs.Digits.{value_snoc, value_below}
 abbrev pub figures : List ℕ → List ℕ
 figures ds = map (λ c. c - 48) ds
 
-both : (a b : Bool) → a ≡ true → b ≡ true → (a && b) ≡ true
-both a b e f = rw (e, f) refl
-
--- with one digit more they are still digits
-pub digits_snoc : (ds : List ℕ) (b : ℕ) → all_ascii_digits ds ≡ true → is_ascii_digit b ≡ true
-    → all_ascii_digits (ds ++ b ∷ []) ≡ true
-digits_snoc [] b e f = rw f refl
-digits_snoc (d ∷ ds) b e f = let parts = and_parts (is_ascii_digit d) (all_ascii_digits ds) e in
-    both _ _ parts.0 (digits_snoc ds b parts.1 f)
-
--- and their number is ten times the old one, and the digit
-pub number_snoc : (ds : List ℕ) (b : ℕ) → value 10 (figures (ds ++ b ∷ [])) ≡ value 10 (figures ds) * 10 + (b - 48)
-number_snoc ds b = ap (value 10) (map-append (λ c. c - 48) ds (b ∷ [])) ∙ value_snoc 10 (figures ds) (b - 48)
-
--- a list with something else than a digit
-pub not_all_digits : (ds : List ℕ) (i : ℕ) → i < length ds → is_ascii_digit (get_or ds i 0) ≡ false
-    → all_ascii_digits ds ≡ false
-not_all_digits [] i lt e = absurd (omega arith)
-not_all_digits (d ∷ ds) zero lt e = rw e refl
-not_all_digits (d ∷ ds) (suc i) lt e = rw (not_all_digits ds i (omega arith) e) (and-false (is_ascii_digit d))
-
 pub no_number : (ds : List ℕ) → all_ascii_digits ds ≡ false → None ≡ digits_number ds
 no_number ds e = rw (e, and-false (nat_le 1 (length ds) && nat_le (length ds) 31)) refl
 

@@ -8,6 +8,7 @@ use Rattle.fp_model.specs.Texts.{same_text}
 use Rattle.fp_model.specs.WellFormed.{BeginsWithKey, IsMsdbDef, StandFrom, is_field_length}
 use Rattle.fp_model.specs.declared.definitions.FieldDef.{FieldDef}
 use Rattle.fp_model.specs.declared.definitions.MsdbDef.{MsdbDef}
+use Rattle.model_laws.proofs.Layouts.{stand_below}
 
 not_both : true ≡ false → ⊥
 not_both e = cc
@@ -26,10 +27,6 @@ take_less (suc n) (suc m) [] le = refl
 take_less (suc n) (suc m) (x ∷ xs) le = ap (λ zs. x ∷ zs) (take_less n m xs (omega (arith, le)))
 
 -- ---- fields
-
-stand_below : (at : ℕ) (fields : List FieldDef) (end : ℕ) → StandFrom at fields end → at ≤ end
-stand_below at [] end s = omega (arith, s)
-stand_below at (f ∷ fs) end s = omega (arith, stand_below (at + f.length) fs end s.2)
 
 one_of : (same : Bool) (f field : FieldDef) (later : Option FieldDef) (P : FieldDef → Type 0) → P f
     → (later ≡ Some field → P field) → (if same then Some f else later) ≡ Some field → P field

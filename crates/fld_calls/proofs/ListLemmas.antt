@@ -1,5 +1,5 @@
 -- Arguments tried one after another.
-use Rattle.std.proofs.Common.{◌≡◌, refl, sym, ap, ◌∙◌, arith, ℕ, zero, suc, ◌+◌, List, [], ◌∷◌, ◌++◌, drop, append_assoc, Bool, true, false, ◌&&◌, ◌==◌, Some, slice_get}
+use Rattle.std.proofs.Common.{◌≡◌, refl, sym, ap, ◌∙◌, ℕ, zero, suc, ◌+◌, List, [], ◌∷◌, ◌++◌, drop, append_assoc, Bool, true, false, ◌&&◌, ◌==◌, Some, slice_get}
 use Rattle.std.specs.Prelude.{Result, Ok, Err, ⊤, is_ok}
 use Rattle.std.proofs.lemmas.List.{append-nil}
 use Rattle.fp_model.specs.declared.definitions.MsdbDef.{MsdbDef}
@@ -11,6 +11,7 @@ use Rattle.fld_calls.specs.Forms.{form_of, forms, with_letters}
 use Rattle.fld_calls.specs.inside.Refusals.{letter_in}
 use Rattle.fld_calls.proofs.Fronts.{LeftBehind, Reads, all_left}
 use Rattle.fld_calls.proofs.TryLemmas.{no_blank}
+use Rattle.plain_laws.proofs.Truths.{and_assoc}
 
 -- the first of them have their letters, and the others, on the segment as it is, give the rest of the answer
 pub record IsTrying (def : MsdbDef) (all : List Argument) (start : List ℕ) (done : List Argument)
@@ -28,10 +29,6 @@ trying-start def all start = record { is_good = refl; answered = refl; made = re
 pub ok-blank : (r : Result ⊤ Refusal) → (letter_in r == 32) ≡ is_ok r
 ok-blank (Ok done) = refl
 ok-blank (Err why) = no_blank why
-
-and_assoc : (a b c : Bool) → (a && (b && c)) ≡ ((a && b) && c)
-and_assoc true b c = refl
-and_assoc false b c = refl
 
 -- one argument more
 pub trying-step : (def : MsdbDef) (all : List Argument) (start : List ℕ) (done : List Argument) (a : Argument)
@@ -114,6 +111,3 @@ got : {X : Type 0} (xs : List X) (i : ℕ) (x : X) → slice_get xs i ≡ Some x
 got [] i x e = absurd cc
 got (y ∷ ys) zero x e = let is : y ≡ x = cc e in ap (λ z. z ∷ ys) is
 got (y ∷ ys) (suc i) x e = got ys i x e
-
-pub drop_got : {X : Type 0} (xs : List X) (i : ℕ) (x : X) → slice_get xs i ≡ Some x → drop i xs ≡ x ∷ drop (i + 1) xs
-drop_got xs i x e = let next : i + 1 ≡ suc i = omega arith in rw next (got xs i x e)

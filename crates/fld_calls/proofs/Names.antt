@@ -4,11 +4,7 @@ use Rattle.std.proofs.lemmas.Bool.Decides.{nat_tests}
 use Rattle.std.specs.Int.{w64, from_be_bytes, to_be_bytes}
 use Rattle.std.specs.Cmp.Lexicographic.{bytes_decides}
 use Rattle.fp_model.specs.Texts.{same_text}
-
-both_ways : (p q : Bool) → (p ≡ true → q ≡ true) → (q ≡ true → p ≡ true) → p ≡ q
-both_ways true q there back = sym (there refl)
-both_ways false true there back = back refl
-both_ways false false there back = refl
+use Rattle.plain_laws.proofs.Truths.{both_ways}
 
 pub same_numbers : (a b : List ℕ) (m n : ℕ) → to_be_bytes w64 m ≡ a → to_be_bytes w64 n ≡ b
     → m ≡ from_be_bytes w64 a → n ≡ from_be_bytes w64 b → (m == n) ≡ same_text a b

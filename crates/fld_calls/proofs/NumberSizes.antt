@@ -13,6 +13,7 @@ use Rattle.fp_model.specs.declared.definitions.FieldKind.TheVariants.{C, X, H, F
 use Rattle.fp_model.specs.Numbers.{number, number_of, is_length_of, packed, packed_digits, packed_sign, signed_by, is_digit}
 use Rattle.fp_model.specs.Texts.{value}
 use Rattle.packed_dec.proofs.Digits.{value_below, digits_at, length-packed_digits, tested_some}
+use Rattle.plain_laws.proofs.Numbers.{abs_signed}
 
 -- each of them is a byte
 abbrev pub AreBytes : List ℕ → Type 0
@@ -33,12 +34,6 @@ half_word n lt = let within : Fits w16 n = omega (arith, lt) in
 full_word : (n : ℕ) → n < 256 ^ 4 → unsigned_abs (cast_signed w32 n) < 10 ^ 31
 full_word n lt = let within : Fits w32 n = omega (arith, lt) in
     let fits : FitsSigned w32 (cast_signed w32 n) = sfits_to_z {w = w32} {n = n} within in grind (arith, ints, fits)
-
--- a number and its sign
-abs_signed : (minus : Bool) (n : ℕ) → unsigned_abs (if minus then neg_ℤ (pos n) else pos n) ≡ n
-abs_signed true zero = refl
-abs_signed true (suc n) = refl
-abs_signed false n = refl
 
 digits_below : (bytes : List ℕ) → length bytes ≤ 16 → list_all is_digit (packed_digits bytes) ≡ true
     → value 10 (packed_digits bytes) < 10 ^ 31

@@ -15,13 +15,9 @@ use Rattle.fld_calls.specs.declared.field.Refusal.{Refusal}
 use Rattle.fld_calls.specs.declared.field.Refusal.TheVariants as refusal
 use Rattle.fld_calls.specs.inside.Operations.{byte_of}
 use Rattle.fld_calls.specs.inside.Refusals.{letter_in, bytes_behind, segment_behind}
+use Rattle.model_laws.proofs.Layouts.{stand_below}
 
 -- ---- fields
-
--- fields that stand one after another end where the last does, or before
-stand_below : (at : ℕ) (fields : List FieldDef) (end : ℕ) → StandFrom at fields end → at ≤ end
-stand_below at [] end s = omega (arith, s)
-stand_below at (f ∷ fs) end (is, fits, others) = omega (arith, stand_below (at + f.length) fs end others)
 
 -- one of two
 by_name : (same : Bool) (f field : FieldDef) (end : ℕ) (later : Option FieldDef) → f.at + f.length ≤ end

@@ -21,8 +21,3 @@ text-step text a others left is =
     append_assoc (text ++ fsa_text a) (connector ∷ []) (list_text others)
     ∙ append_assoc text (fsa_text a) (connector ∷ list_text others)
     ∙ ap (λ (xs : List ℕ). text ++ xs) (sym more)
-
--- the list from an item on
-pub from-item : {X : Type 0} (xs : List X) (i : ℕ) (x : X) → i < length xs → x ≡ get_or xs i x
-    → drop i xs ≡ x ∷ drop (i + 1) xs
-from-item xs i x lt is = let next : i + 1 ≡ suc i = omega arith in drop-cons xs i x lt ∙ rw (← is, next) refl

@@ -1,30 +1,21 @@
 -- The segments that a definition loads, put one after another.
-use Rattle.std.proofs.Common.{◌≡◌, ◌∙◌, refl, sym, ap, subst, ℕ, ◌+◌, ◌<◌, ◌≤◌, List, [], ◌∷◌, ◌++◌, length, map, take, drop, slice_index_or, false}
+use Rattle.std.proofs.Common.{◌≡◌, ◌∙◌, refl, sym, ap, subst, ℕ, ◌+◌, ◌<◌, List, [], ◌∷◌, ◌++◌, length, map, take, drop, slice_index_or, false}
 use Rattle.std.specs.Prelude.{fold}
-use Rattle.std.specs.List.{AllByRecursion, AllZip, IsDistinct}
+use Rattle.std.specs.List.{AllByRecursion, IsDistinct}
 use Rattle.std.proofs.lemmas.List.{drop_more, map-append, take_more}
-use Rattle.std.proofs.Math.ListN.{drop_of_length-le}
 use Rattle.std.proofs.lemmas.Map.Keys.{IsDistinct-head, IsDistinct-tail}
 use Rattle.fp_model.specs.CheckpointText.{IsMsdbOf}
 use Rattle.fp_model.specs.State.{drop_key, key_length, key_of, loaded, put_by_key, with_segment}
 use Rattle.fp_model.specs.Texts.{same_text}
-use Rattle.fp_model.specs.WellFormed.{IsLoaded, IsMsdbDef}
+use Rattle.fp_model.specs.WellFormed.{IsMsdbDef}
 use Rattle.fp_model.specs.declared.database.Msdb.{Msdb}
 use Rattle.fp_model.specs.declared.definitions.MsdbDef.{MsdbDef}
 use Rattle.past_segments.specs.Pasts.{ArePastsOf, IsPastOf, databases_at}
 use Rattle.past_segments.specs.Times.{IsSettledBy, Past, database_at}
-use Rattle.key_order.proofs.Ascending.{all_but, all_put, with_one_ascends}
-
-with_good : (def : MsdbDef) (bytes : List ℕ) (msdb : Msdb) → length bytes ≡ def.length → IsMsdbOf def msdb
-    → IsMsdbOf def (with_segment def bytes msdb)
-with_good def bytes msdb whole good = record {
-  lengths =
-      all_put (key_of def.fields) (λ segment. length segment ≡ def.length) bytes
-      (drop_key (key_of def.fields) (key_of def.fields bytes) msdb.segments) whole
-      (all_but (key_of def.fields) (λ segment. length segment ≡ def.length) (key_of def.fields bytes) msdb.segments
-      good.lengths);
-  in_order = with_one_ascends (key_of def.fields) bytes msdb.segments good.in_order;
-}
+use Rattle.key_order.proofs.Ascending.{still_differ}
+use Rattle.plain_laws.proofs.Alls.{all_push, each_push}
+use Rattle.model_laws.proofs.Segments.{differ_nothing, lengths_of, none_dropped}
+use Rattle.state_laws.proofs.Settling.{with_good}
 
 -- the segments so far, and what is left to load
 pub record IsLoading (def : MsdbDef) (segments rest : List (List ℕ)) : Type 0 where
@@ -35,16 +26,6 @@ pub record IsLoading (def : MsdbDef) (segments rest : List (List ℕ)) : Type 0 
       segments) rest
   pub whole : fold (λ (ss : List (List ℕ)) s. put_by_key (key_of def.fields) s ss) segments rest ≡ (loaded def).segments
 
-lengths_of : (def : MsdbDef) (load : List (List ℕ)) → AllByRecursion (IsLoaded def) load
-    → AllByRecursion (λ s. length s ≡ def.length) load
-lengths_of def [] all = tt
-lengths_of def (s ∷ load) all = (all.0.whole, lengths_of def load all.1)
-
-differ_nothing : (key : List ℕ → List ℕ) (load : List (List ℕ))
-    → AllByRecursion (λ s. AllByRecursion (λ y. same_text (key y) (key s) ≡ false) []) load
-differ_nothing key [] = tt
-differ_nothing key (s ∷ load) = (tt, differ_nothing key load)
-
 at_first : (def : MsdbDef) → IsMsdbDef def → IsLoading def [] def.load
 at_first def is = record {
   good = record { lengths = tt; in_order = refl };
@@ -53,22 +34,6 @@ at_first def is = record {
   differ = differ_nothing (key_of def.fields) def.load;
   whole = refl;
 }
-
--- where no key is the same, none is dropped
-none_dropped : (key : List ℕ → List ℕ) (k : List ℕ) (xs : List (List ℕ))
-    → AllByRecursion (λ y. same_text (key y) k ≡ false) xs → drop_key key k xs ≡ xs
-none_dropped key k [] all = refl
-none_dropped key k (x ∷ xs) all = rw all.0 (ap (λ ys. x ∷ ys) (none_dropped key k xs all.1))
-
-still_differ : (key : List ℕ → List ℕ) (s : List ℕ) (segments rest : List (List ℕ))
-    → AllByRecursion (λ k. same_text (key s) k ≡ false) (map key rest)
-    → AllByRecursion (λ r. AllByRecursion (λ y. same_text (key y) (key r) ≡ false) segments) rest
-    → AllByRecursion (λ r. AllByRecursion (λ y. same_text (key y) (key r) ≡ false) (put_by_key key s segments)) rest
-still_differ key s segments [] head differ = tt
-still_differ key s segments (r ∷ rest) head differ = (
-  all_put key (λ y. same_text (key y) (key r) ≡ false) s segments head.0 differ.0,
-  still_differ key s segments rest head.1 differ.1,
-)
 
 one_more : (def : MsdbDef) (segments : List (List ℕ)) (s : List ℕ) (rest : List (List ℕ))
     → IsLoading def segments (s ∷ rest) → IsLoading def (put_by_key (key_of def.fields) s segments) rest
@@ -140,18 +105,6 @@ pub record AreLoaded (defs : List MsdbDef) (pasts : List Past) : Type 0 where
   pub settled : AllByRecursion (IsSettledBy 0) pasts
   pub start : (p : ℕ) → databases_at p pasts ≡ map loaded defs
 
-each_more : {A B : Type 0} (R : A → B → Type 0) (xs : List A) (ys : List B) (x : A) (y : B) → AllZip R xs ys → R x y
-    → AllZip R (xs ++ x ∷ []) (ys ++ y ∷ [])
-each_more R [] [] x y all one = (one, tt)
-each_more R [] (b ∷ ys) x y all one = absurd all
-each_more R (a ∷ xs) [] x y all one = absurd all
-each_more R (a ∷ xs) (b ∷ ys) x y all one = (all.0, each_more R xs ys x y all.1 one)
-
-all_more : {A : Type 0} (P : A → Type 0) (xs : List A) (x : A) → AllByRecursion P xs → P x
-    → AllByRecursion P (xs ++ x ∷ [])
-all_more P [] x all one = (one, tt)
-all_more P (y ∷ xs) x all one = (all.0, all_more P xs x all.1 one)
-
 pub loaded_more : (defs : List MsdbDef) (i : ℕ) (d : MsdbDef) (old new : List Past) (past : Past) → i < length defs
     → d ≡ slice_index_or defs i d → AreLoaded (take i defs) old → new ≡ old ++ past ∷ [] → IsPastOf d past
     → IsSettledBy 0 past → ((p : ℕ) → database_at p past ≡ loaded d) → AreLoaded (take (i + 1) defs) new
@@ -160,8 +113,8 @@ loaded_more defs i d old new past within d_is are new_is is settled shows =
     take_more defs i d within ∙ ap (λ e. take i defs ++ e ∷ []) (sym d_is) in
     subst (λ ds. AreLoaded ds new) (sym front)
     (subst (AreLoaded (take i defs ++ d ∷ [])) (sym new_is) (record {
-      are = each_more IsPastOf (take i defs) old d past are.are is;
-      settled = all_more (IsSettledBy 0) old past are.settled settled;
+      are = each_push IsPastOf (take i defs) old d past are.are is;
+      settled = all_push (IsSettledBy 0) old past are.settled settled;
       start = λ p. map-append (database_at p) old (past ∷ []) ∙ ap (λ ms. ms ++ database_at p past ∷ []) (are.start p)
           ∙ ap (λ m. map loaded (take i defs) ++ m ∷ []) (shows p) ∙ sym (map-append loaded (take i defs) (d ∷ []));
     }))
@@ -172,6 +125,3 @@ pub rest_at : {X : Type 0} (xs : List X) (i : ℕ) (x y : X) → i < length xs �
     → drop i xs ≡ y ∷ drop (i + 1) xs
 rest_at xs i x y within is same =
     drop_more xs i x within ∙ ap (λ e. e ∷ drop (i + 1) xs) (sym is) ∙ ap (λ e. e ∷ drop (i + 1) xs) (sym same)
-
-pub none_left : {X : Type 0} (xs : List X) (i : ℕ) → length xs ≤ i → drop i xs ≡ []
-none_left xs i le = drop_of_length-le xs le

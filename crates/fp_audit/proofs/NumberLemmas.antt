@@ -12,11 +12,14 @@ use Rattle.fp_model.specs.History.{History, with_entry}
 use Rattle.fp_model.specs.Lasts.{Last, format_at, format_behind, last_by, last_of, lasts_behind, lasts_of, with_last}
 use Rattle.fp_model.specs.State.{drop_key, is_below, put_by_key}
 use Rattle.fp_model.specs.Texts.{same_text}
-use Rattle.key_order.proofs.Ascending.{same_is}
 use Rattle.txn_lang.specs.Numbers.{name_cmp}
 use Rattle.fp_audit.specs.Numbers.{AreKept, KnowsLines, kept_of}
 use Rattle.fp_audit.specs.inside.Numbers.{last_by_name, with_used}
 use Rattle.fp_audit.specs.declared.kept.Kept.{Kept}
+use Rattle.plain_laws.proofs.Alls.{find_kept}
+use Rattle.model_laws.proofs.Entries.{format_push}
+use Rattle.plain_laws.proofs.Truths.{not_true}
+use Rattle.model_laws.proofs.Texts.{same_text_is}
 
 not_both : true ≡ false → ⊥
 not_both e = cc
@@ -50,26 +53,6 @@ module _ {X : Type 0} (p : X → Bool) (key : X → List ℕ) (x : X) where
       by true e later = in_front (is_below (key x) (key y)) (others y e) later
       by false e later = later
 
--- without elements that aren't looked for
-find_kept : {X : Type 0} (p q : X → Bool) (xs : List X) → ((x : X) → p x ≡ true → q x ≡ true)
-    → find p (filter q xs) ≡ find p xs
-find_kept p q [] h = refl
-find_kept p q (x ∷ xs) h = by (q x) refl (find_kept p q xs h)
-  where
-    either : (here : Bool) → p x ≡ here → q x ≡ false → find p (filter q xs) ≡ find p xs
-        → find p (filter q xs) ≡ (if here then Some x else find p xs)
-    either true here is later = absurd (not_both (sym (h x here) ∙ is))
-    either false here is later = later
-
-    by : (b : Bool) → q x ≡ b → find p (filter q xs) ≡ find p xs
-        → find p (if b then x ∷ filter q xs else filter q xs) ≡ find p (x ∷ xs)
-    by true is later = ap (λ o. if p x then Some x else o) later
-    by false is later = either (p x) refl is later
-
-not_true : (b : Bool) → not b ≡ true → b ≡ false
-not_true true e = absurd (not_both (sym e))
-not_true false e = refl
-
 -- the last number of a terminal, with one more
 last_with : (last : Last) (lasts : List Last) (name : Name)
     → last_of name (with_last last lasts) ≡ (if same_text last.lterm.0 name.0 then Some last else last_of name lasts)
@@ -85,7 +68,7 @@ last_with last lasts name = by (same_text last.lterm.0 name.0) refl
     by true e =
         find_new (λ (l : Last). same_text l.lterm.0 name.0) (λ (l : Last). l.lterm.0) last
         (λ (l : Last). not (same_text l.lterm.0 last.lterm.0)) lasts e
-        (λ l differs. subst (λ (text : List ℕ). same_text l.lterm.0 text ≡ false) (same_is last.lterm.0 name.0 e)
+        (λ l differs. subst (λ (text : List ℕ). same_text l.lterm.0 text ≡ false) (same_text_is last.lterm.0 name.0 e)
         (not_true (same_text l.lterm.0 last.lterm.0) differs))
     by false e =
         find_put (λ (l : Last). same_text l.lterm.0 name.0) (λ (l : Last). l.lterm.0) last
@@ -97,7 +80,7 @@ last_with last lasts name = by (same_text last.lterm.0 name.0) refl
             → not b ≡ true
         other true l here is =
             absurd (not_both (sym here ∙ ap (λ (text : List ℕ). same_text text name.0)
-            (same_is l.lterm.0 last.lterm.0 is) ∙ e))
+            (same_text_is l.lterm.0 last.lterm.0 is) ∙ e))
         other false l here is = refl
 
 -- a map with one more keeps the numbers with one more
@@ -118,11 +101,6 @@ kept_more old new lasts of are put name =
     by false = refl
 
 -- ---- one more entry
-
-format_push : (format : ℕ) (es : List Entry) (e : Entry)
-    → format_at format (es ++ e ∷ []) ≡ format_behind (format_at format es) e.outcome
-format_push format [] e = refl
-format_push format (x ∷ es) e = format_push (format_behind format x.outcome) es e
 
 lasts_push : (format : ℕ) (es : List Entry) (e : Entry) (lasts : List Last)
     → lasts_behind format (es ++ e ∷ []) lasts

@@ -1,7 +1,7 @@
 -- The states of a history, one more of them, and those where nothing changed.
 use Rattle.std.proofs.Common.{◌≡◌, ◌∙◌, refl, sym, ap, ℕ, zero, suc, ◌+◌, ◌<◌, ◌≤◌, List, [], ◌∷◌, ◌++◌, length, take, drop, Some, None, Bool, true, false, arith, ◌⊎◌, inl, inr, length-append}
-use Rattle.std.proofs.lemmas.Bool.{ltb-true, ltb-false}
-use Rattle.std.specs.Prelude.{OnOk, Result, Ok, Err, slice_get, nat_lt, if◌then◌else◌}
+use Rattle.std.proofs.lemmas.Bool.{cases_lt}
+use Rattle.std.specs.Prelude.{OnOk, Result, Ok, Err, slice_get, if◌then◌else◌}
 use Rattle.std.specs.List.{AllByRecursion}
 use Rattle.fp_model.specs.declared.database.Db.{Db}
 use Rattle.fp_model.specs.declared.database.Dedb.{Dedb}
@@ -13,16 +13,16 @@ use Rattle.fp_model.specs.History.{History, place_of, states_of, with_entry}
 use Rattle.past_anchors.specs.Databases.{AreDedbsOf, state_of}
 use Rattle.past_replay.specs.States.{AreStatesOf, state_at}
 use Rattle.past_segments.specs.Pasts.{databases_at}
-use Rattle.past_segments.specs.Times.{EndsBy, IsSettledBy, Past, database_at}
-use Rattle.past_segments.specs.declared.slot.Slot.{Slot}
-use Rattle.past_segments.specs.declared.slot.Version.{Version}
-use Rattle.past_segments.proofs.PastLaws.{shows_on}
+use Rattle.past_segments.specs.Times.{IsSettledBy, Past}
 use Rattle.fp_model.specs.SerialHistory.{NeverFalls}
 use Rattle.fp_audit.specs.inside.Judging.{Finds, Keeps, Stands}
 use Rattle.fp_audit.specs.Setup.{AreReady}
 use Rattle.fp_audit.specs.declared.so_far.SoFar.{SoFar}
 use Rattle.std.proofs.Math.ListN.{drop_of_length-le}
 use Rattle.std.proofs.lemmas.List.{append-nil}
+use Rattle.past_settling.proofs.BackLemmas.{ends_later}
+use Rattle.past_replay.proofs.SettledLemmas.{shows_next}
+use Rattle.plain_laws.proofs.Lists.{take_whole}
 
 -- the place of the next entry goes up by one
 pub place_more : (h : History) (e : Entry) (next : Db) → place_of (with_entry e next h) ≡ place_of h + 1
@@ -30,31 +30,10 @@ place_more h e next = length-append h.entries (e ∷ [])
 
 -- ---- nothing changed
 
-shows_on_all : (place : ℕ) (pasts : List Past) → AllByRecursion (IsSettledBy place) pasts
-    → databases_at (place + 1) pasts ≡ databases_at place pasts
-shows_on_all place [] all = refl
-shows_on_all place (past ∷ pasts) all =
-    ap (λ (m : Msdb). m ∷ databases_at (place + 1) pasts) (shows_on past place (place + 1) all.0 (omega arith))
-    ∙ ap (λ (ms : List Msdb). database_at place past ∷ ms) (shows_on_all place pasts all.1)
-
-ends_later : (place : ℕ) (pasts : List Past) → AllByRecursion (IsSettledBy place) pasts
-    → AllByRecursion (IsSettledBy (place + 1)) pasts
-ends_later place [] all = tt
-ends_later place (past ∷ pasts) all = (slots_later past.slots all.0, ends_later place pasts all.1)
-  where
-    versions_later : (vs : List Version) → EndsBy place vs → EndsBy (place + 1) vs
-    versions_later [] all = tt
-    versions_later (v ∷ vs) all = (omega (arith, all.0), versions_later vs all.1)
-
-    slots_later : (slots : List Slot) → AllByRecursion (λ (slot : Slot). EndsBy place slot.versions) slots
-        → AllByRecursion (λ (slot : Slot). EndsBy (place + 1) slot.versions) slots
-    slots_later [] all = tt
-    slots_later (slot ∷ slots) all = (versions_later slot.versions all.0, slots_later slots all.1)
-
 -- where nothing stands from behind a place, the state of the next one is the same
 same_state : (place : ℕ) (pasts : List Past) (dedbs : List Dedb) → AllByRecursion (IsSettledBy place) pasts
     → state_at (place + 1) pasts dedbs ≡ state_at place pasts dedbs
-same_state place pasts dedbs all = ap (λ (ms : List Msdb). state_of ms dedbs) (shows_on_all place pasts all)
+same_state place pasts dedbs all = ap (λ (ms : List Msdb). state_of ms dedbs) (shows_next place pasts all)
 
 -- and the next entry may be judged there, with data entry databases in shape
 pub ready_later : (defs : Defs) (place : ℕ) (pasts : List Past) (dedbs others : List Dedb)
@@ -96,12 +75,6 @@ notes_within from place (note ∷ notes) order =
 
 -- ---- a slice of a list
 
-take_all : {X : Type 0} (xs : List X) (n : ℕ) → length xs ≤ n → take n xs ≡ xs
-take_all [] zero le = refl
-take_all [] (suc n) le = refl
-take_all (x ∷ xs) zero le = absurd (omega (arith, le))
-take_all (x ∷ xs) (suc n) le = ap (λ ys. x ∷ ys) (take_all xs n (omega (arith, le)))
-
 -- a list whose slice was changed is the slice, where it is as long
 pub all_changed : {X : Type 0} (old new : List X) (n : ℕ) → length new ≡ length old → n ≡ length old
     → take n (new ++ drop (length new) old) ≡ new
@@ -109,7 +82,7 @@ all_changed old new n long is =
     ap (λ (rest : List _). take n (new ++ rest)) (drop_of_length-le old (omega (arith, long)))
     ∙ ap (λ (k : ℕ). take k (new ++ [])) (is ∙ sym long)
     ∙ ap (take (length new)) (append-nil new)
-    ∙ take_all new (length new) (omega arith)
+    ∙ take_whole new (length new) (omega arith)
 
 -- ---- one more
 
@@ -125,13 +98,6 @@ at_end [] x y (suc p) le e = absurd (cc)
 at_end (z ∷ xs) x y zero le e = absurd (omega (arith, le))
 at_end (z ∷ xs) x y (suc p) le e = let r = at_end xs x y p (omega (arith, le)) e in (omega (arith, r.0), r.1)
 
-before_or : (p n : ℕ) → (p < n) ⊎ (n ≤ p)
-before_or p n = by (nat_lt p n) refl
-  where
-    by : (b : Bool) → nat_lt p n ≡ b → (p < n) ⊎ (n ≤ p)
-    by true e = inl (ltb-true p n e)
-    by false e = inr (ltb-false p n e)
-
 -- the states with the next one
 pub states_more : (old new : List Past) (dedbs others : List Dedb) (place : ℕ) (h : History) (e : Entry) (next : Db)
     → AreStatesOf old dedbs place h.now (states_of h)
@@ -141,7 +107,7 @@ pub states_more : (old new : List Past) (dedbs others : List Dedb) (place : ℕ)
 states_more old new dedbs others place h e next are before is = record {
   here = is;
   count = length-append (states_of h) (next ∷ []) ∙ ap (λ n. n + 1) are.count;
-  each = λ p state at. by p state at (before_or p (length (states_of h)));
+  each = λ p state at. by p state at (cases_lt p (length (states_of h)));
 }
   where
     by : (p : ℕ) (state : Db) → slice_get (states_of h ++ next ∷ []) p ≡ Some state

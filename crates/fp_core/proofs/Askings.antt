@@ -1,22 +1,19 @@
 -- What a line asks for, and which number its entry uses.
-use Rattle.std.proofs.Common.{◌≡◌, sym, ◌∙◌, ap, subst, ℕ, List, [], Bool, true, false, Option, Some, None, length, unwrap_or}
-use Rattle.std.specs.Prelude.{IsSome, Ok, Err, if◌then◌else◌, nat_lt}
-use Rattle.std.specs.List.{list_all}
+use Rattle.std.proofs.Common.{◌≡◌, sym, ◌∙◌, ap, subst, ℕ, List, [], Bool, true, false, Option, Some, None, unwrap_or}
+use Rattle.std.specs.Prelude.{IsSome, Ok, Err, if◌then◌else◌}
 use Rattle.fp_model.specs.declared.calls.Message.{Message}
 use Rattle.fp_model.specs.declared.log.Outcome.{Outcome}
-use Rattle.fp_model.specs.declared.name.Name.{Name}
 use Rattle.fp_model.specs.declared.scripts.Script.{Script}
 use Rattle.fp_model.specs.Asking.{script_of}
 use Rattle.fp_model.specs.Lasts.{Last, last_by, last_in, last_of, last_of_message, uses_number}
-use Rattle.fp_model.specs.Messages.{NotAscii, TooLong, behind_number, behind_word, first_word, message_by, message_of, number_in_line, terminal_of}
-use Rattle.fp_model.specs.Names.{name_in}
+use Rattle.fp_model.specs.Messages.{NotAscii, TooLong, message_of, terminal_of}
 use Rattle.fp_model.specs.Product.{by_last, by_number}
-use Rattle.fp_model.specs.Texts.{is_printable}
 use Rattle.fp_model.specs.ReplyLine.{addressee, line_for, verdict}
 use Rattle.fp_core.specs.declared.asking.Demand.{Demand}
 use Rattle.fp_core.specs.declared.asking.Demand.TheVariants as demand
 use Rattle.fp_core.specs.Numbering.{last_told}
 use Rattle.fp_core.specs.inside.Reading.{IsDemandIn, IsDemandOf, refused_line}
+use Rattle.serial_order.proofs.Lines.{of_line}
 
 -- ---- by its number
 
@@ -35,23 +32,6 @@ fair_line : (long printable : Bool) (m message : Message)
 fair_line true printable m message is = absurd cc
 fair_line false true m message is = cc
 fair_line false false m message is = absurd cc
-
-by_parts : (line : List ℕ) (number : Option ℕ) (lterm tran : Option Name) (text : List ℕ) (message : Message)
-    → message_by line number lterm tran text ≡ Ok message
-    → (message.line ≡ line) × (lterm ≡ Some message.lterm)
-by_parts line number None tran text message is = absurd cc
-by_parts line number (Some lterm) None text message is = absurd cc
-by_parts line number (Some lterm) (Some tran) text message is =
-    let m : Message = record { lterm = lterm; tran = tran; text = text; line = line; number = number } in
-    let same = fair_line (nat_lt 1000 (length text)) (list_all is_printable text) m message is in
-    (sym (ap (λ (x : Message). x.line) same), ap (λ (x : Message). Some x.lterm) same)
-
-of_line : (format : ℕ) (line : List ℕ) (message : Message) → message_of format line ≡ Ok message
-    → (message.line ≡ line) × (terminal_of line ≡ Some message.lterm)
-of_line format line message is =
-    let asked : List ℕ = behind_number (number_in_line format line) line in
-    by_parts line (number_in_line format line) (terminal_of line) (name_in (first_word asked)) (behind_word asked)
-    message is
 
 module _ (format : ℕ) (scripts : List Script) (line : List ℕ) where
   abbrev text_of : Outcome → List ℕ → List ℕ

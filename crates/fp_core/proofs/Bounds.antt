@@ -20,7 +20,7 @@ use Rattle.fp_core.specs.inside.Rounding.{HasRound, NeedsFewer, work_ahead}
 use Rattle.fp_core.proofs.Steps.{regions_long}
 
 -- what is reached under the rules and definitions of one engine is so under those of another that has the same
-reached_too : (old new : Engine) (m : Machine) → rules_in new ≡ rules_in old → new.defs.now ≡ old.defs.now
+pub reached_too : (old new : Engine) (m : Machine) → rules_in new ≡ rules_in old → new.defs.now ≡ old.defs.now
     → IsReached (rules_in old) (gauge_of old.defs.now) m
     → IsReached (rules_in new) (gauge_of new.defs.now) m
 reached_too old new m same defs h =

@@ -30,6 +30,7 @@ use Rattle.fp_core.specs.inside.Standing.{SteppedAt}
 use Rattle.fp_core.specs.Turning.{RoundsAreExact}
 use Rattle.fp_core.proofs.Rounds.{makes_round, part_calm, part_events, part_exact, part_of, part_runs}
 use Rattle.fp_core.proofs.Steps.{left_alone, still_at}
+use Rattle.plain_laws.proofs.Alls.{all_append}
 
 -- ---- rounds behind rounds
 
@@ -39,11 +40,6 @@ pub goes_both : (rules : Rules) (rounds : List (List RunStep)) (m mid : Machine)
 goes_both rules [] m mid rounds2 m2 goes more = subst (λ (x : Machine). GoesRounds rules x rounds2 m2) goes more
 goes_both rules (steps ∷ rounds) m mid rounds2 m2 goes more =
     (goes.0, goes_both rules rounds (machine_after m steps) mid rounds2 m2 goes.1 more)
-
-pub all_both : {A : Type 0} (P : A → Type 0) (xs ys : List A) → AllByRecursion P xs → AllByRecursion P ys
-    → AllByRecursion P (xs ++ ys)
-all_both P [] ys h k = k
-all_both P (x ∷ xs) ys h k = (h.0, all_both P xs ys h.1 k)
 
 pub exact_both : (defs : Defs) (rules : Rules) (rounds : List (List RunStep)) (m mid : Machine)
     (rounds2 : List (List RunStep)) → GoesRounds rules m rounds mid
@@ -68,7 +64,7 @@ in_behind defs rules rounds m mid here e goes calm exact i = record {
   begun = i.begun;
   left = i.left;
   next = i.next;
-  calm = (all_both AreCalm rounds i.rounds calm i.calm.0, i.calm.1);
+  calm = (all_append AreCalm rounds i.rounds calm i.calm.0, i.calm.1);
   exact = (exact_both defs rules rounds m mid i.rounds goes exact i.exact.0, i.exact.1);
   made = i.made;
 }
@@ -98,7 +94,7 @@ module _ (origin : Origin) (defs : Defs) (rules : Rules) (m : Machine) (old : Di
       rounds = come.rounds ++ more.rounds;
       after = more.after;
       goes = goes_both rules come.rounds m come.after more.rounds more.after come.goes more.goes;
-      calm = all_both AreCalm come.rounds more.rounds come.calm more.calm;
+      calm = all_append AreCalm come.rounds more.rounds come.calm more.calm;
       exact = exact_both defs rules come.rounds m come.after more.rounds come.goes come.exact more.exact;
       beside = more.beside;
       given = more.given ∙ come.given;

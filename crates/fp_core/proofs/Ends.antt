@@ -36,7 +36,11 @@ use Rattle.fp_core.specs.Numbering.{last_told}
 use Rattle.fp_core.specs.inside.Numbering.{with_used}
 use Rattle.fp_core.specs.Relation.{IsMade, IsRead, IsReadIn, IsRegion, IsTransaction, StandsFor, first_place, owed_of, room_of}
 use Rattle.sync_point.specs.Refusals.{bare_entry, refusal_room}
-use Rattle.fp_core.proofs.Places.{all_put, each_has, left_of, put_both, get_front, get_last, is_within, none_some, some_same, sum_has, sum_put}
+use Rattle.fp_core.proofs.Places.{each_has, left_of, put_both, get_last, sum_has, sum_put}
+use Rattle.plain_laws.proofs.Alls.{all_set}
+use Rattle.plain_laws.proofs.Places.{get_left}
+use Rattle.std.proofs.lemmas.Option.{none-some, same_Some, slice_get_within}
+use Rattle.plain_laws.proofs.Lists.{map_snoc}
 
 -- ---- where the transaction is
 
@@ -51,7 +55,7 @@ pub record Stands (engine : Engine) (m : Machine) (region : ℕ) (t : Transactio
 
 pub stands_at : (engine : Engine) (m : Machine) (region : ℕ) (t : Transaction) → MayEnd engine m region t
     → Stands engine m region t
-stands_at engine m zero t e = absurd (none_some (machine.Active t) e.active)
+stands_at engine m zero t e = absurd (none-some (machine.Active t) e.active)
 stands_at engine m (suc place) t e =
     let found = left_of (IsRegion engine.defs.now engine.scripts.now.scripts) engine.regions m.regions place
     (machine.Active t) e.stands.regions e.active in
@@ -68,14 +72,14 @@ stands_at engine m (suc place) t e =
 pub region_is : (engine : Engine) (m : Machine) (region : ℕ) (t : Transaction) (r : Region) → MayEnd engine m region t
     → slice_get engine.regions (region - 1) ≡ Some r
     → IsRegion engine.defs.now engine.scripts.now.scripts r (machine.Active t)
-region_is engine m zero t r e there = absurd (none_some (machine.Active t) e.active)
+region_is engine m zero t r e there = absurd (none-some (machine.Active t) e.active)
 region_is engine m (suc place) t r e there =
     let same : suc place - 1 ≡ place = omega arith in
     let at : slice_get engine.regions place ≡ Some r = subst (λ n. slice_get engine.regions n ≡ Some r) same there in
     let found = left_of (IsRegion engine.defs.now engine.scripts.now.scripts) engine.regions m.regions place
     (machine.Active t) e.stands.regions e.active in
     subst (λ q. IsRegion engine.defs.now engine.scripts.now.scripts q (machine.Active t))
-    (some_same found.left r (sym found.there ∙ at)) found.is
+    (same_Some found.left r (sym found.there ∙ at)) found.is
 
 -- it isn't idle,
 pub not_idle : (engine : Engine) (m : Machine) (region : ℕ) (t : Transaction) → MayEnd engine m region t
@@ -150,20 +154,20 @@ pub made_more : (defs : Defs) (first : ℕ) (h : History) (e : Entry) (next : Db
 made_more defs first h e next even made new place before after x from was is next_is =
     let states : length (states_of h) ≡ length h.entries + 1 =
     length-append h.past (h.now ∷ []) ∙ (omega (arith, even)) in
-    let within : place < length (h.entries ++ e ∷ []) = is_within (h.entries ++ e ∷ []) place x is in
+    let within : place < length (h.entries ++ e ∷ []) = slice_get_within (h.entries ++ e ∷ []) place x is in
     let more : length (h.entries ++ e ∷ []) ≡ length h.entries + 1 = length-append h.entries (e ∷ []) in
     elim (split place (length h.entries) (omega (arith, within, more))) [
       | inl old ↦
           made place before after x from
-          (sym (get_front (states_of h) (next ∷ []) place (omega (arith, old, states))) ∙ was)
-          (sym (get_front h.entries (e ∷ []) place old) ∙ is)
-          (sym (get_front (states_of h) (next ∷ []) (suc place) (omega (arith, old, states))) ∙ next_is)
+          (sym (get_left (states_of h) (next ∷ []) place (omega (arith, old, states))) ∙ was)
+          (sym (get_left h.entries (e ∷ []) place old) ∙ is)
+          (sym (get_left (states_of h) (next ∷ []) (suc place) (omega (arith, old, states))) ∙ next_is)
       | inr last ↦
-          let entry : x ≡ e = some_same x e (sym is ∙ get_last h.entries e place last) in
-          let first_state : before ≡ h.now = some_same before h.now
-          (sym was ∙ get_front (states_of h) (next ∷ []) place (omega (arith, last, states)) ∙ get_last h.past h.now
+          let entry : x ≡ e = same_Some x e (sym is ∙ get_last h.entries e place last) in
+          let first_state : before ≡ h.now = same_Some before h.now
+          (sym was ∙ get_left (states_of h) (next ∷ []) place (omega (arith, last, states)) ∙ get_last h.past h.now
           place (omega (arith, last, even))) in
-          let last_state : after ≡ next = some_same after next
+          let last_state : after ≡ next = same_Some after next
           (sym next_is ∙ get_last (states_of h) next (suc place) (omega (arith, last, states))) in
           subst (λ q. IsMade defs q x after) (sym first_state)
           (subst (λ q. IsMade defs h.now q after) (sym entry)
@@ -191,10 +195,6 @@ lasts_more format entries e now lasts more at are is =
     is ∙ ap (λ (f : ℕ). with_used (last_by f e) lasts) (sym at)
     ∙ ap (with_used (last_by (format_at format entries) e)) are
     ∙ sym (lasts_push format entries e [])
-
-pub map_more : {A B : Type 0} (f : A → B) (xs : List A) (x : A) → map f (xs ++ x ∷ []) ≡ map f xs ++ f x ∷ []
-map_more f [] x = refl
-map_more f (y ∷ ys) x = ap (λ rest. f y ∷ rest) (map_more f ys x)
 
 module _ (engine : Engine) (m : Machine) (place : ℕ) (s : StandsFor engine m) where
   -- The region is idle, its locks and its request are gone, there is one entry more, and the databases are those of
@@ -253,7 +253,7 @@ module _ (engine : Engine) (m : Machine) (place : ℕ) (s : StandsFor engine m) 
         msdbs = msdbs;
         past = state ∙ (omega (arith, s.past)) ∙ sym one;
         format = format_more m.history.format m.history.entries e engine.format s.format format;
-        read = all_put (IsReadIn engine.format) m.regions place machine.Idle s.read tt;
+        read = all_set (IsReadIn engine.format) m.regions place machine.Idle s.read tt;
         lasts = lasts_more m.history.format m.history.entries e engine.format engine.lasts.terminals lasts.terminals
             s.format s.lasts used;
         places =
@@ -265,7 +265,7 @@ module _ (engine : Engine) (m : Machine) (place : ℕ) (s : StandsFor engine m) 
         sealed = sealed ∙ s.sealed;
         unsealed = unsealed ∙ ap (λ (xs : List Entry). xs ++ e ∷ []) s.unsealed ∙ sym
             (drop-append-le m.sealed m.history.entries (e ∷ []) before);
-        owed = is_owed ∙ ap (λ xs. xs ++ owed_of e ∷ []) s.owed ∙ sym (map_more owed_of engine.log.unsealed e) ∙ ap
+        owed = is_owed ∙ ap (λ xs. xs ++ owed_of e ∷ []) s.owed ∙ sym (map_snoc owed_of engine.log.unsealed e) ∙ ap
             (map owed_of) (sym unsealed);
         made = made_more engine.defs.now (first_place m) m.history e next s.past s.made made;
         room =
@@ -310,7 +310,7 @@ pub ended_at : (engine : Engine) (m : Machine) (region : ℕ) (t : Transaction) 
     }) (ended_with region e next m)
 ended_at engine m zero t e next rows store log owed room lasts w frees same_rows sealed unsealed is_owed slots less
     spare of msdbs format used numbers made =
-    absurd (none_some (machine.Active t) w.active)
+    absurd (none-some (machine.Active t) w.active)
 ended_at engine m (suc place) t e next rows store log owed room lasts w frees same_rows sealed unsealed is_owed slots
     less spare of msdbs format used numbers made =
     let same : suc place - 1 ≡ place = omega arith in

@@ -17,11 +17,11 @@ use Rattle.fp_model.specs.Serial.{Ending, refused_as, settled_as}
 use Rattle.fp_model.specs.Turns.{Environment, NoFault, DeviceFault, OutOfMemory, Act, Answers, Gains, Waits, Deadlocks, Retries_at_cycle, Finishes, Retries_at_verify, Does, RegionTurn, Turn, AreItemsFor, asks, ending_of, refused_with, requests_with, wanted}
 use Rattle.fp_core.specs.declared.did.Did.{Did}
 use Rattle.fp_core.specs.Turning.{HasItsItems, IsDid, IsDidOfRegion, IsExact, IsExactOfRegion, IsExactTurn}
-use Rattle.fp_core.proofs.Places.{none_some, some_same}
+use Rattle.std.proofs.lemmas.Option.{none-some, same_Some}
 
 -- ---- entries, and one more
 
-last_same : (xs : List Entry) (a b : Entry) → xs ++ a ∷ [] ≡ xs ++ b ∷ [] → a ≡ b
+pub last_same : (xs : List Entry) (a b : Entry) → xs ++ a ∷ [] ≡ xs ++ b ∷ [] → a ≡ b
 last_same [] a b e = cc
 last_same (x ∷ xs) a b e = last_same xs a b (let rest : xs ++ a ∷ [] ≡ xs ++ b ∷ [] = cc in rest)
 
@@ -45,7 +45,7 @@ module _ (defs : Defs) (rules : Rules) (m : Machine) (place : ℕ) (t : Transact
       → wanted rules m (suc place) t (asks rules t) ≡ Some needed
       → after ≡ refused_with rules m (suc place) t (outcome.Deadlock cycle)
       → cycle ≡ first_cycle (length rules.regions) (requests_with rules m (suc place) needed) m.locks (suc place)
-  names_found (Answers call) after needed cycle does exact wants is = absurd (none_some needed (sym does.1 ∙ wants))
+  names_found (Answers call) after needed cycle does exact wants is = absurd (none-some needed (sym does.1 ∙ wants))
   names_found (Gains n) after needed cycle does exact wants is =
       absurd (not_longer m.history.entries (entry_of t (refused_as (outcome.Deadlock cycle) m.history.now) [] [])
       (ap entries_in (sym does.2 ∙ is)))
@@ -57,7 +57,7 @@ module _ (defs : Defs) (rules : Rules) (m : Machine) (place : ℕ) (t : Transact
       let last : made (suc place ∷ c) ≡ made cycle =
       last_same m.history.entries (made (suc place ∷ c)) (made cycle) (ap entries_in (sym does.2 ∙ is)) in
       let same : suc place ∷ c ≡ cycle = same_cycle (suc place ∷ c) cycle (ap (λ (e : Entry). e.outcome) last) in
-      let need : n ≡ needed = some_same n needed (sym does.0.wants ∙ wants) in
+      let need : n ≡ needed = same_Some n needed (sym does.0.wants ∙ wants) in
       sym same ∙ exact
       ∙ ap (λ (x : Needed). first_cycle (length rules.regions) (requests_with rules m (suc place) x) m.locks
       (suc place)) need
@@ -65,9 +65,9 @@ module _ (defs : Defs) (rules : Rules) (m : Machine) (place : ℕ) (t : Transact
       absurd (not_longer m.history.entries (entry_of t (refused_as (outcome.Deadlock cycle) m.history.now) [] [])
       (ap entries_in (sym does.2 ∙ is)))
   names_found (Finishes ending items) after needed cycle does exact wants is =
-      absurd (none_some needed (sym does.0.lacks_none ∙ wants))
+      absurd (none-some needed (sym does.0.lacks_none ∙ wants))
   names_found (Retries_at_verify ending) after needed cycle does exact wants is =
-      absurd (none_some needed (sym does.0.lacks_none ∙ wants))
+      absurd (none-some needed (sym does.0.lacks_none ∙ wants))
 
 -- ---- what an act adds
 
@@ -106,15 +106,15 @@ state_stays now reply (FillsPart set begin end n) other = refl
 module _ (defs : Defs) (rules : Rules) (m : Machine) (place : ℕ) (t : Transaction) where
   end_stays : (ask : Ask) (ending : Ending) → ending_of rules m.history.now t ask ≡ Some ending
       → ¬ (ending.outcome ≡ outcome.Done) → ending.next ≡ m.history.now
-  end_stays (Asks call) ending is other = absurd (none_some ending is)
+  end_stays (Asks call) ending is other = absurd (none-some ending is)
   end_stays (Replies reply) ending is other =
       let s = rules.settle m.history.now t.point.own in
-      let same : settled_as m.history.now reply s ≡ ending = some_same (settled_as m.history.now reply s) ending is in
+      let same : settled_as m.history.now reply s ≡ ending = same_Some (settled_as m.history.now reply s) ending is in
       sym (ap (λ (x : Ending). x.next) same)
       ∙ state_stays m.history.now reply s (λ done. other (sym (ap (λ (x : Ending). x.outcome) same) ∙ done))
   end_stays (Rolls code) ending is other =
       let made : Ending = refused_as (outcome.Roll code) m.history.now in
-      sym (ap (λ (x : Ending). x.next) (some_same made ending is))
+      sym (ap (λ (x : Ending). x.next) (same_Some made ending is))
 
   act_adds : (act : Act) (m2 : Machine) → Does rules m (suc place) t act m2 → IsExact defs rules m (suc place) t act
       → Adds defs rules m t m2
@@ -180,7 +180,7 @@ module _ (defs : Defs) (rules : Rules) (m : Machine) (v : Environment) (after : 
       → wanted rules m region t (asks rules t) ≡ Some needed
       → after ≡ refused_with rules m region t (outcome.Deadlock cycle)
       → cycle ≡ first_cycle (length rules.regions) (requests_with rules m region needed) m.locks region
-  names_first e turn exact zero t needed cycle here there wants is = absurd (none_some (Active t) there)
+  names_first e turn exact zero t needed cycle here there wants is = absurd (none-some (Active t) there)
   names_first e turn exact (suc place) t needed cycle here there wants is =
       by v
       (subst (λ (o : Option Region). RegionTurn rules m (suc place) o v after) there

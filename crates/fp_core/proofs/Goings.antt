@@ -1,7 +1,7 @@
 -- An active region goes on.
 use Rattle.std.proofs.Common.{◌≡◌, refl, sym, ◌∙◌, ap, subst, arith, ℕ, zero, suc, ◌-◌, List, [], ◌∷◌, ◌++◌, Bool, true, false, length, Option, Some, slice_get, slice_set}
 use mathlib.Core.Path.{fun_ext}
-use Rattle.std.specs.Prelude.{Result, Ok, Err, IfSome, None, OnErr, if◌then◌else◌, option_map}
+use Rattle.std.specs.Prelude.{IfSome, None, if◌then◌else◌, option_map}
 use Rattle.std.specs.Option.{option_map_or}
 use Rattle.std.proofs.lemmas.List.{length-set}
 use Rattle.ci_locks.specs.Table.{standing}
@@ -34,15 +34,12 @@ use Rattle.fp_core.specs.inside.Acting.{HasActed, IsAtWork, MayEnd}
 use Rattle.fp_core.specs.inside.Answering.{IsActed, lock_for}
 use Rattle.fp_core.specs.Relation.{IsAhead, IsRead, IsReadIn, IsRegion, IsTransaction, StandsFor, room_of, rules_in}
 use Rattle.fp_core.proofs.Ends.{may_end}
-use Rattle.fp_core.proofs.Places.{all_put, each_has, none_some, put_both, put_left, sum_put}
+use Rattle.fp_core.proofs.Places.{each_has, put_both, put_left, sum_put}
 use Rattle.fp_core.proofs.Turns.{acted}
+use Rattle.plain_laws.proofs.Alls.{all_set}
+use Rattle.std.proofs.lemmas.Option.{none-some}
 
 -- ---- one transaction
-
--- what is so where it fails
-pub on_err : {A E P : Type 0} (r : Result A E) → P → OnErr r P
-on_err (Ok a) h = tt
-on_err (Err e) h = h
 
 pub noted_is : (rules : Rules) (b : Bool) (notes : List ℕ) (n : ℕ)
     → (if b then notes ++ n ∷ [] else notes) ≡ noted rules b notes n
@@ -153,7 +150,7 @@ module _ (engine : Engine) (m : Machine) (place : ℕ) (t : Transaction) (new : 
     msdbs = s.msdbs;
     past = s.past;
     format = s.format;
-    read = all_put (IsReadIn engine.format) m.regions place (machine.Active u) s.read
+    read = all_set (IsReadIn engine.format) m.regions place (machine.Active u) s.read
         (subst (IsRead engine.format) (sym same)
         (each_has (IsReadIn engine.format) m.regions place (machine.Active t) s.read there));
     lasts = s.lasts;
@@ -266,7 +263,7 @@ module _ (engine : Engine) (m : Machine) (t : Transaction) (new : Active) where
       → IsActed engine.defs.now engine.scripts.now.scripts ((standing engine.locks).holds region) m.history.now count t
       new a
       → HasActed (with_active engine (region - 1) new) m region t a
-  has_acted zero w count counts a is = absurd (none_some (machine.Active t) w.active)
+  has_acted zero w count counts a is = absurd (none-some (machine.Active t) w.active)
   has_acted (suc place) w count counts a is =
       let same : suc place - 1 ≡ place = omega arith in
       subst (λ n. HasActed (with_active engine n new) m (suc place) t a) (sym same)
@@ -276,7 +273,7 @@ module _ (engine : Engine) (m : Machine) (t : Transaction) (new : Active) where
   pub works_still : (region : ℕ) → IsAtWork engine m region t
       → IsTransaction engine.defs.now engine.scripts.now.scripts new t
       → MayEnd (with_active engine (region - 1) new) m region t
-  works_still zero w is = absurd (none_some (machine.Active t) w.active)
+  works_still zero w is = absurd (none-some (machine.Active t) w.active)
   works_still (suc place) w is =
       let same : suc place - 1 ≡ place = omega arith in
       subst (λ n. MayEnd (with_active engine n new) m (suc place) t) (sym same)

@@ -1,6 +1,6 @@
 -- What becomes of a request for a lock.
 use Rattle.std.proofs.Common.{◌≡◌, refl, sym, ◌∙◌, ap, subst, ℕ, ◌≤◌, List, [], ◌∷◌, Bool, true, false, not, ◌==◌, if◌then◌else◌, length, Option, Some, None}
-use Rattle.std.specs.Prelude.{Result, Ok, Err, OnErr, option_map}
+use Rattle.std.specs.Prelude.{option_map}
 use Rattle.std.proofs.lemmas.Slice.Zip.{AllZip-long}
 use Rattle.ci_locks.specs.Cycles.{first_cycle}
 use Rattle.ci_locks.specs.Standing.{IfCycle, IsGrant, Shows, Standing, gained_over, locks_after, requests_after}
@@ -21,12 +21,8 @@ use Rattle.fp_core.specs.declared.locking.Asked.{Asked}
 use Rattle.fp_core.specs.declared.locking.Asked.TheVariants as asked
 use Rattle.fp_core.specs.inside.Acting.{HasAsked, IsAtWork, MayEnd, NeedsLock}
 use Rattle.fp_core.specs.Relation.{IsRegion, StandsFor, rules_in}
-use Rattle.fp_core.proofs.Places.{none_some, some_same}
 use Rattle.fp_core.proofs.Turns.{acted}
-
-pub on_err : {T E P : Type 0} (answer : Result T E) → P → OnErr answer P
-on_err (Ok value) holds = tt
-on_err (Err fault) holds = holds
+use Rattle.std.proofs.lemmas.Option.{none-some, same_Some}
 
 -- ---- what is wanted
 
@@ -45,13 +41,13 @@ wanted_is_new engine m region t (Replies reply) needed s is =
         → option_map (λ (resource : Resource). let n : Needed = record { resource = resource; mode = Exclusive } in n) o
         ≡ Some needed
         → ¬ (held_as m.locks region needed.resource ≡ Some Exclusive)
-    by None lack e = absurd (none_some needed e)
+    by None lack e = absurd (none-some needed e)
     by (Some resource) lack e =
         subst (λ (r : Resource). ¬ (held_as m.locks region r ≡ Some Exclusive))
-        (ap (λ (n : Needed). n.resource) (some_same _ needed e))
+        (ap (λ (n : Needed). n.resource) (same_Some _ needed e))
         ((laws_of engine.defs.now engine.scripts.now.scripts s.setup.defined.each_msdb).lacks t.point.own
         (held_as m.locks region) resource lack)
-wanted_is_new engine m region t (Rolls code) needed s is = absurd (none_some needed is)
+wanted_is_new engine m region t (Rolls code) needed s is = absurd (none-some needed is)
 
 -- a lock that isn't held Exclusive is gained in front
 gained_is : (held : Option Mode) (l : Lock) (locks : List Lock) → ¬ (held ≡ Some Exclusive)

@@ -26,3 +26,4 @@ pub mod Rounds
 pub mod Comings
 pub mod Bounds
 pub mod Onwards
+pub mod ReachLemmas

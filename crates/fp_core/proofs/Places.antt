@@ -1,14 +1,9 @@
 -- Two lists of which each place is related, sums over places, and lists with one element more.
-use Rattle.std.proofs.Common.{◌≡◌, refl, sym, ap, subst, arith, ℕ, zero, suc, ◌+◌, ◌<◌, ◌≤◌, List, [], ◌∷◌, ◌++◌, length, Some, None, slice_get, slice_set}
-use Rattle.std.specs.Prelude.{Result, Ok, Err, OnErr, OnOk, IfOk, IsOk, sum_by}
+use Rattle.std.proofs.Common.{◌≡◌, refl, sym, ap, subst, arith, ℕ, zero, suc, ◌+◌, ◌≤◌, List, [], ◌∷◌, ◌++◌, length, Some, slice_get, slice_set}
+use Rattle.std.specs.Prelude.{Result, Ok, Err, OnOk, IsOk, sum_by}
 use Rattle.std.specs.List.{AllZip, AllByRecursion}
 use Rattle.std.proofs.lemmas.List.Sums.{sum_by-cons}
-
-pub some_same : {A : Type 0} (x y : A) → Some x ≡ Some y → x ≡ y
-some_same x y e = cc
-
-pub none_some : {A : Type 0} (x : A) → None ≡ Some x → ⊥
-none_some x e = cc
+use Rattle.std.proofs.lemmas.Option.{same_Some}
 
 -- ---- related lists
 
@@ -23,7 +18,7 @@ pub left_of : {A B : Type 0} (R : A → B → Type 0) (xs : List A) (ys : List B
 left_of R [] [] place b h e = absurd cc
 left_of R [] (y ∷ ys) place b h e = absurd h
 left_of R (x ∷ xs) [] place b h e = absurd h
-left_of R (x ∷ xs) (y ∷ ys) zero b h e = record { left = x; there = refl; is = subst (R x) (some_same y b e) h.0 }
+left_of R (x ∷ xs) (y ∷ ys) zero b h e = record { left = x; there = refl; is = subst (R x) (same_Some y b e) h.0 }
 left_of R (x ∷ xs) (y ∷ ys) (suc n) b h e =
     let rest = left_of R xs ys n b h.1 e in
     record { left = rest.left; there = rest.there; is = rest.is }
@@ -40,7 +35,7 @@ right_of R [] [] place a h e = absurd cc
 right_of R [] (y ∷ ys) place a h e = absurd h
 right_of R (x ∷ xs) [] place a h e = absurd h
 right_of R (x ∷ xs) (y ∷ ys) zero a h e =
-    record { right = y; there = refl; is = subst (λ q. R q y) (some_same x a e) h.0 }
+    record { right = y; there = refl; is = subst (λ q. R q y) (same_Some x a e) h.0 }
 right_of R (x ∷ xs) (y ∷ ys) (suc n) a h e =
     let rest = right_of R xs ys n a h.1 e in
     record { right = rest.right; there = rest.there; is = rest.is }
@@ -60,31 +55,12 @@ pub put_left : {A B : Type 0} (R : A → B → Type 0) (xs : List A) (ys : List 
 put_left R [] [] place a b h e new = tt
 put_left R [] (y ∷ ys) place a b h e new = absurd h
 put_left R (x ∷ xs) [] place a b h e new = absurd h
-put_left R (x ∷ xs) (y ∷ ys) zero a b h e new = (subst (R a) (sym (some_same y b e)) new, h.1)
+put_left R (x ∷ xs) (y ∷ ys) zero a b h e new = (subst (R a) (sym (same_Some y b e)) new, h.1)
 put_left R (x ∷ xs) (y ∷ ys) (suc n) a b h e new = (h.0, put_left R xs ys n a b h.1 e new)
 
 -- ---- places
 
--- what stands at a place that was changed
-pub get_put : {A : Type 0} (xs : List A) (place : ℕ) (new old : A)
-    → slice_get xs place ≡ Some old → slice_get (slice_set xs place new) place ≡ Some new
-get_put [] place new old there = absurd cc
-get_put (x ∷ xs) zero new old there = refl
-get_put (x ∷ xs) (suc i) new old there = get_put xs i new old there
-
--- a place that something stands at
-pub is_within : {A : Type 0} (xs : List A) (place : ℕ) (x : A) → slice_get xs place ≡ Some x → place < length xs
-is_within [] place x there = absurd cc
-is_within (y ∷ ys) zero x there = omega arith
-is_within (y ∷ ys) (suc n) x there = omega (arith, is_within ys n x there)
-
 -- ---- one element more
-
-pub get_front : {A : Type 0} (xs ys : List A) (place : ℕ) → place < length xs
-    → slice_get (xs ++ ys) place ≡ slice_get xs place
-get_front [] ys place within = absurd (omega (arith, within))
-get_front (x ∷ xs) ys zero within = refl
-get_front (x ∷ xs) ys (suc n) within = get_front xs ys n (omega (arith, within))
 
 pub get_last : {A : Type 0} (xs : List A) (y : A) (place : ℕ) → place ≡ length xs
     → slice_get (xs ++ y ∷ []) place ≡ Some y
@@ -100,7 +76,7 @@ pub sum_put : {A : Type 0} (f : A → ℕ) (xs : List A) (place : ℕ) (new old 
     → slice_get xs place ≡ Some old → sum_by f (slice_set xs place new) + f old ≡ sum_by f xs + f new
 sum_put f [] place new old there = absurd cc
 sum_put f (x ∷ xs) zero new old there =
-    let same : f x ≡ f old = ap f (some_same x old there) in
+    let same : f x ≡ f old = ap f (same_Some x old there) in
     omega (arith, same, sum_by-cons f x xs, sum_by-cons f new xs)
 sum_put f (x ∷ xs) (suc i) new old there =
     omega (arith, sum_put f xs i new old there, sum_by-cons f x xs, sum_by-cons f x (slice_set xs i new))
@@ -110,7 +86,7 @@ pub sum_has : {A : Type 0} (f : A → ℕ) (xs : List A) (place : ℕ) (x : A)
     → slice_get xs place ≡ Some x → f x ≤ sum_by f xs
 sum_has f [] place x there = absurd cc
 sum_has f (y ∷ ys) zero x there =
-    let same : f y ≡ f x = ap f (some_same y x there) in
+    let same : f y ≡ f x = ap f (same_Some y x there) in
     omega (arith, same, sum_by-cons f y ys)
 sum_has f (y ∷ ys) (suc i) x there = omega (arith, sum_has f ys i x there, sum_by-cons f y ys)
 
@@ -119,29 +95,10 @@ sum_has f (y ∷ ys) (suc i) x there = omega (arith, sum_has f ys i x there, sum
 pub each_has : {A : Type 0} (P : A → Type 0) (xs : List A) (place : ℕ) (x : A)
     → AllByRecursion P xs → slice_get xs place ≡ Some x → P x
 each_has P [] place x h e = absurd cc
-each_has P (y ∷ ys) zero x h e = subst P (some_same y x e) h.0
+each_has P (y ∷ ys) zero x h e = subst P (same_Some y x e) h.0
 each_has P (y ∷ ys) (suc n) x h e = each_has P ys n x h.1 e
 
--- one place is changed to what is so too
-pub all_put : {A : Type 0} (P : A → Type 0) (xs : List A) (place : ℕ) (x : A) → AllByRecursion P xs → P x
-    → AllByRecursion P (slice_set xs place x)
-all_put P [] place x all new = tt
-all_put P (y ∷ ys) zero x all new = (new, all.1)
-all_put P (y ∷ ys) (suc n) x all new = (all.0, all_put P ys n x all.1 new)
-
 -- ---- results
-
-pub on_err_by : {A E : Type 0} (P Q : Type 0) (r : Result A E) → (P → Q) → OnErr r P → OnErr r Q
-on_err_by P Q (Ok a) f h = tt
-on_err_by P Q (Err e) f h = f h
-
-pub on_ok_by : {A E : Type 0} (P Q : Type 0) (r : Result A E) → (P → Q) → OnOk r P → OnOk r Q
-on_ok_by P Q (Ok a) f h = f h
-on_ok_by P Q (Err e) f h = tt
-
-pub if_ok_by : {A E : Type 0} (P Q : A → Type 0) (r : Result A E) → ((a : A) → P a → Q a) → IfOk r P → IfOk r Q
-if_ok_by P Q (Ok a) f h = f a h
-if_ok_by P Q (Err e) f h = h
 
 -- what is so of a good answer, where it is good
 pub surely : {A E : Type 0} (P : Type 0) (r : Result A E) → IsOk r → OnOk r P → P

@@ -42,11 +42,13 @@ use Rattle.fp_core.specs.Relation.{IsShort, IsTakeable, StandsFor, first_place, 
 use Rattle.fp_core.specs.Standing.{Stepped}
 use Rattle.fp_core.specs.inside.Standing.{SteppedBy}
 use Rattle.fp_core.specs.Turning.{Turned, did_for, did_with}
-use Rattle.fp_core.proofs.Ends.{format_more, lasts_more, made_more, makes_nothing, map_more}
-use Rattle.fp_core.proofs.Places.{all_put, each_has}
+use Rattle.fp_core.proofs.Ends.{format_more, lasts_more, made_more, makes_nothing}
+use Rattle.fp_core.proofs.Places.{each_has}
 use Rattle.fp_core.proofs.Steps.{regions_long}
 use Rattle.fp_core.proofs.Takes.{at_work_few}
 use Rattle.fp_core.proofs.Turns.{is_device}
+use Rattle.plain_laws.proofs.Alls.{all_push, all_set}
+use Rattle.plain_laws.proofs.Lists.{map_snoc}
 
 -- ---- what is answered
 
@@ -80,11 +82,6 @@ waits_same names others same (Some name) = ap (λ b. b || false) (same name)
 
 -- ---- what waits and what is queued
 
-all_more : {A : Type 0} (P : A → Type 0) (xs : List A) (x : A) → AllByRecursion P xs → P x
-    → AllByRecursion P (xs ++ x ∷ [])
-all_more P [] x all new = (new, tt)
-all_more P (y ∷ ys) x all new = (all.0, all_more P ys x all.1 new)
-
 queued_long : (place : ℕ) (message : Message) (queues : List (List Message))
     → length (queued_at place message queues) ≡ length queues
 queued_long place message queues = by (slice_get queues place)
@@ -105,8 +102,8 @@ all_queued P place message queues all new = by (slice_get queues place) refl
         (option_map_or (λ messages. slice_set queues place (messages ++ message ∷ [])) o queues)
     by None is = all
     by (Some messages) is =
-        all_put (AllByRecursion P) queues place (messages ++ message ∷ []) all
-        (all_more P messages message (each_has (AllByRecursion P) queues place messages all is) new)
+        all_set (AllByRecursion P) queues place (messages ++ message ∷ []) all
+        (all_push P messages message (each_has (AllByRecursion P) queues place messages all is) new)
 
 -- a message that a line asks for can be taken
 pub takeable_in : (format : ℕ) (scripts : List Script) (line : List ℕ) (message : Message) → IsShort line
@@ -319,7 +316,7 @@ module _ (engine : Engine) (m : Machine) (s : StandsFor engine m) where
         unsealed = entries ∙ ap (λ (xs : List Entry). xs ++ here ∷ []) s.unsealed
             ∙ sym (drop-append-le m.sealed m.history.entries (here ∷ []) before);
         owed = all_owed ∙ ap (λ xs. xs ++ owed_of here ∷ []) s.owed
-            ∙ sym (map_more owed_of engine.log.unsealed here) ∙ ap (map owed_of) (sym entries);
+            ∙ sym (map_snoc owed_of engine.log.unsealed here) ∙ ap (map owed_of) (sym entries);
         made = made_more engine.defs.now (first_place m) m.history here m.history.now s.past s.made
             (makes_nothing engine.defs.now m.history.now here.from o line [] []);
         room = s.room;

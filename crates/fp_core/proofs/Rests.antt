@@ -1,6 +1,6 @@
 -- The engine at rest: nothing is queued, held or locked, no region is at work, and all entries are sealed.
 use Rattle.std.proofs.Common.{◌≡◌, refl, sym, ◌∙◌, ap, subst, arith, ℕ, zero, suc, List, [], ◌∷◌, length, map, replicate, None}
-use Rattle.std.specs.Prelude.{All, sum_by, true, false}
+use Rattle.std.specs.Prelude.{sum_by}
 use Rattle.std.specs.List.{AllByRecursion, AllZip}
 use Rattle.std.proofs.lemmas.List.{length-map, length-replicate}
 use Rattle.std.proofs.lemmas.List.Sums.{sum_by-cons}
@@ -9,10 +9,7 @@ use Rattle.balancing.specs.Backlog.{AreSame}
 use Rattle.ci_locks.specs.Standing.{Shows}
 use Rattle.ci_locks.specs.Table.{standing}
 use Rattle.drain_laws.specs.Measure.{active_in, one_if_active}
-use Rattle.fp_defs.proofs.ExitLemmas.{found_kind}
-use Rattle.fp_exits.specs.Kinds.{has_kind}
 use Rattle.fp_model.specs.declared.definitions.Defs.{Defs}
-use Rattle.fp_model.specs.declared.definitions.Kind.{Kind}
 use Rattle.fp_model.specs.declared.name.Name.{Name}
 use Rattle.fp_model.specs.declared.scripts.Script.{Script}
 use Rattle.fp_model.specs.History.{History, place_of}
@@ -24,14 +21,7 @@ use Rattle.msdb_store.specs.Store.{IsOf}
 use Rattle.fp_core.specs.declared.engine.Engine.{Engine}
 use Rattle.fp_core.specs.declared.engine.Region.TheVariants as regions
 use Rattle.fp_core.specs.Relation.{IsReadIn, IsRegion, IsSetup, StandsFor, owed_of, room_of, rules_in}
-use Rattle.fp_core.proofs.Places.{is_within}
-
--- a kind that is there isn't missing
-pub is_there : {X : Type 0} (f : X → Kind) (kind : Kind) (xs : List X) → has_kind (map f xs) kind ≡ true
-    → All (λ x. ¬ (f x ≡ kind)) xs → ⊥
-is_there f kind xs there none =
-    let missing : false ≡ has_kind (map f xs) kind = found_kind f kind xs false ((λ e. none), (λ all. refl)) in
-    cc
+use Rattle.std.proofs.lemmas.Option.{slice_get_within}
 
 -- idle regions of the code are those of the machine,
 all_idle : (defs : Defs) (scripts : List Script) (groups : List ℕ)
@@ -107,7 +97,7 @@ rests engine lines h setup held queues busy idle locks rows of msdbs sealed past
       unsealed = unsealed ∙ sym (drop-length h.entries);
       owed = owed ∙ ap (map owed_of) (sym unsealed);
       made = λ place before after e first was is then.
-          absurd (omega (arith, first, is_within h.entries place e is));
+          absurd (omega (arith, first, slice_get_within h.entries place e is));
       room = room ∙ sym (sum_idle room_of refl engine.defs.now.regions);
       spare = omega (arith, room);
       slots =

@@ -1,5 +1,5 @@
 -- Turns in a row, and a round.
-use Rattle.std.proofs.Common.{◌≡◌, refl, sym, ◌∙◌, ap, subst, arith, ℕ, zero, suc, ◌+◌, ◌<◌, List, [], ◌∷◌, ◌++◌, length, Some}
+use Rattle.std.proofs.Common.{◌≡◌, refl, sym, ◌∙◌, ap, subst, arith, ℕ, suc, ◌+◌, ◌<◌, List, [], ◌∷◌, ◌++◌, length, Some}
 use Rattle.std.specs.Prelude.{map, filter, Result, Ok, Err, IfErr, OnErr}
 use Rattle.std.specs.Result.{IsErrAnd}
 use Rattle.std.proofs.lemmas.List.{length-append, map-append}
@@ -23,6 +23,7 @@ use Rattle.fp_core.specs.inside.Rounding.{HasRound, StoppedAmong, TookTurns, tur
 use Rattle.fp_core.specs.Standing.{Stepped}
 use Rattle.fp_core.specs.Turning.{AreExact, IsExactTurn, Turned}
 use Rattle.fp_core.proofs.Exacts.{exact_of}
+use Rattle.ci_locks.proofs.SetLemmas.{numbers_last}
 
 -- ---- steps, and one more
 
@@ -72,13 +73,6 @@ calm_one e DeviceFault after none = absurd (none refl)
 calm_one e OutOfMemory after none = refl
 
 -- ---- the turns of regions
-
--- the last of so many numbers
-numbers_last : (n from : ℕ) → numbers_up (suc n) from ≡ numbers_up n from ++ (from + n) ∷ []
-numbers_last zero from = ap (λ (k : ℕ). k ∷ []) (omega arith)
-numbers_last (suc n) from =
-    ap (λ (ks : List ℕ). from ∷ ks) (numbers_last n (from + 1))
-    ∙ ap (λ (k : ℕ). from ∷ numbers_up n (from + 1) ++ k ∷ []) (omega arith)
 
 pub turns_last : (n next : ℕ) → next ≡ n + 1 → turns_of next ≡ turns_of n ++ event.Region next ∷ []
 turns_last n next e =

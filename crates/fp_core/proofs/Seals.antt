@@ -29,23 +29,9 @@ use Rattle.fp_core.specs.inside.Sealing.{AreFreed, replies_of, reply_of, termina
 use Rattle.fp_core.specs.Turning.{Turned, did_seal}
 use Rattle.fp_core.proofs.Tells.{freed_same}
 use Rattle.fp_core.proofs.Turns.{is_device}
+use Rattle.plain_laws.proofs.Lists.{drop_more, take_nil}
 
 -- ---- lists
-
-drop_nil : {A : Type 0} (k : ℕ) → drop {A = A} k [] ≡ []
-drop_nil zero = refl
-drop_nil (suc k) = refl
-
-drop_more : {A : Type 0} (n k : ℕ) (xs : List A) → drop k (drop n xs) ≡ drop (n + k) xs
-drop_more zero k xs = let e : 0 + k ≡ k = omega arith in ap (λ (j : ℕ). drop j xs) (sym e)
-drop_more (suc n) k [] = drop_nil k ∙ sym (drop_nil (suc n + k))
-drop_more (suc n) k (x ∷ xs) =
-    let e : suc n + k ≡ suc (n + k) = omega arith in
-    drop_more n k xs ∙ ap (λ (j : ℕ). drop j (x ∷ xs)) (sym e)
-
-take_nil : {A : Type 0} (k : ℕ) → take {A = A} k [] ≡ []
-take_nil zero = refl
-take_nil (suc k) = refl
 
 take_min : {A : Type 0} (k : ℕ) (xs : List A) (j : ℕ) → j ≡ min k (length xs) → take j xs ≡ take k xs
 take_min zero xs j e = let none : j ≡ 0 = omega (arith, e) in ap (λ (i : ℕ). take i xs) none

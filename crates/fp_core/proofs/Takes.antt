@@ -28,15 +28,18 @@ use Rattle.fp_core.specs.declared.engine.Owed.{Owed}
 use Rattle.fp_core.specs.declared.engine.Region.TheVariants as regions
 use Rattle.fp_core.specs.Relation.{IsAhead, IsReadIn, IsRegion, IsTakeable, IsTransaction, StandsFor, owed_of, room_of, rules_in}
 use Rattle.fp_core.specs.Turning.{IsDidOfRegion, Turned, did_take}
-use Rattle.fp_core.proofs.Places.{all_put, each_has, put_both, right_of, some_same, sum_put}
+use Rattle.fp_core.proofs.Places.{each_has, put_both, right_of, sum_put}
 use Rattle.fp_core.proofs.Turns.{is_device}
+use Rattle.plain_laws.proofs.Alls.{all_set}
+use Rattle.plain_laws.proofs.Lists.{greatest_from}
+use Rattle.std.proofs.lemmas.Option.{same_Some}
 
 -- ---- lists
 
 -- a list with a first
 pub with_first : {A : Type 0} (xs : List A) (x : A) → slice_get xs 0 ≡ Some x → xs ≡ x ∷ drop 1 xs
 with_first [] x is = absurd cc
-with_first (y ∷ ys) x is = ap (λ first. first ∷ ys) (some_same y x is)
+with_first (y ∷ ys) x is = ap (λ first. first ∷ ys) (same_Some y x is)
 
 -- and one without
 pub with_none : {A : Type 0} (xs : List A) → slice_get xs 0 ≡ None → xs ≡ []
@@ -55,17 +58,13 @@ all_at P [] place all = tt
 all_at P (xs ∷ xss) zero all = all.0
 all_at P (xs ∷ xss) (suc n) all = all_at P xss n all.1
 
-greatest_from : (groups : List ℕ) (most : ℕ) → most ≤ fold max most groups
-greatest_from [] most = omega arith
-greatest_from (g ∷ gs) most = let r = greatest_from gs (max most g) in omega (arith, r)
-
 -- each is at most the greatest
 greatest_above : (groups : List ℕ) (most place group : ℕ) → slice_get groups place ≡ Some group
     → group ≤ fold max most groups
 greatest_above [] most place group is = absurd cc
 greatest_above (g ∷ gs) most zero group is =
     let r = greatest_from gs (max most g) in
-    let same = some_same g group is in
+    let same = same_Some g group is in
     omega (arith, r, same)
 greatest_above (g ∷ gs) most (suc n) group is = greatest_above gs (max most g) n group is
 
@@ -264,7 +263,7 @@ module _ (engine : Engine) (m : Machine) (place group : ℕ) (s : StandsFor engi
               ∙ ap (λ (qs : List (List Message)). slice_set qs (group - 1) others) s.queues
               ∙ ap (λ (q : ℕ). slice_set m.queues q others) (sym queue_is);
           groups = length-set m.queues (queue_of_region (rules_in engine) (suc place)) others ∙ s.groups;
-          takeable = all_put (AllByRecursion (IsTakeable engine.format engine.scripts.now.scripts)) m.queues
+          takeable = all_set (AllByRecursion (IsTakeable engine.format engine.scripts.now.scripts)) m.queues
               (queue_of_region (rules_in engine) (suc place)) others s.takeable
               (all_rest (IsTakeable engine.format engine.scripts.now.scripts) (queue_of group engine.queues)
               (all_at (IsTakeable engine.format engine.scripts.now.scripts) engine.queues.queues (group - 1) all));
@@ -278,7 +277,7 @@ module _ (engine : Engine) (m : Machine) (place group : ℕ) (s : StandsFor engi
           msdbs = s.msdbs;
           past = s.past;
           format = s.format;
-          read = all_put (IsReadIn engine.format) m.regions place (machine.Active t) s.read
+          read = all_set (IsReadIn engine.format) m.regions place (machine.Active t) s.read
               (first_takeable engine m group message s oldest).read;
           lasts = terminals ∙ s.lasts;
           places =

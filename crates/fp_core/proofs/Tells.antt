@@ -6,10 +6,11 @@ use Rattle.std.proofs.lemmas.List.Concat.{flat_map-append, flat_map-cons}
 use Rattle.std.proofs.lemmas.List.Folds.{list_any-append}
 use Rattle.std.proofs.lemmas.Map.Views.{any-filter_same}
 use Rattle.balancing.specs.Backlog.{AreSame, without}
-use Rattle.balancing.proofs.NameLemmas.{flipped, same_names}
+use Rattle.balancing.proofs.NameLemmas.{flipped}
 use Rattle.fp_model.specs.Machine.{is_among, same_name}
 use Rattle.fp_model.specs.declared.name.Name.{Name}
 use Rattle.fp_core.specs.inside.Sealing.{AreFreed}
+use Rattle.model_laws.proofs.Texts.{same_names}
 
 -- ---- terminals
 

@@ -24,7 +24,7 @@ use Rattle.fp_core.specs.Numbering.{last_kept, last_told}
 use Rattle.fp_core.specs.Relation.{IsTransaction, StandsFor, rules_in}
 use Rattle.fp_core.proofs.Goings.{stands_with, with_active}
 use Rattle.fp_core.proofs.Grants.{locked_stands}
-use Rattle.fp_core.proofs.Places.{none_some}
+use Rattle.std.proofs.lemmas.Option.{none-some}
 
 -- ---- one transaction
 
@@ -79,7 +79,7 @@ pub tried_at : (engine : Engine) (m : Machine) (region : ℕ) (t : Transaction) 
     → length rows ≡ length engine.locks
     → StandsFor (record engine { regions = slice_set engine.regions (region - 1) (regions.Active new); locks = rows })
     (tried_again (rules_in engine) region t m)
-tried_at engine m zero t new rows u is frees same_rows = absurd (none_some (machine.Active t) u.active)
+tried_at engine m zero t new rows u is frees same_rows = absurd (none-some (machine.Active t) u.active)
 tried_at engine m (suc place) t new rows u is frees same_rows =
     let same : suc place - 1 ≡ place = omega arith in
     let again : Transaction = begun_in (rules_in engine) m t.message (t.tries + 1) in

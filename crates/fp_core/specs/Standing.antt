@@ -158,11 +158,3 @@ IsCausedBySite before now _ = now ≡ before
 abbrev pub IsCausedBySource : ℕ → ℕ → Stop → Type 0
 IsCausedBySource before now stop.ReadFault = Rose before now
 IsCausedBySource before now _ = now ≡ before
-
--- By what is told and by the numbers: calls were made of a source or a site, and it is the same one.
-pub record IsContinued {X : Type 0} (told : X → Type 0) (faults : X → ℕ) (holds : X → ℕ) (keeps : X → X → Type 0)
-    (old new : X) : Type 0 where
-  pub later : faults old ≤ faults new
-  pub still_told : told old → told new
-  pub reference : holds new ≡ holds old
-  pub kept : (first : X) → keeps first old → keeps first new

@@ -25,11 +25,13 @@ use Rattle.def_tables.specs.declared.fault.DefsFault.TheVariants.{BadField, OutO
 use Rattle.def_tables.specs.declared.keys.Form.TheVariants.{Dedb}
 use Rattle.fp_defs.proofs.Beside.{Beside, IsRead, read_in_turn, beside_map, beside_each}
 use Rattle.fp_defs.proofs.Distinct.{no_texts, distinct_beside}
-use Rattle.fp_defs.proofs.DedbLemmas.{map_twice, AreaKeeps, area_keeps, SegmentKeeps, segment_keeps}
-use Rattle.def_tables.proofs.KeyLemmas.{within-ok}
+use Rattle.fp_defs.proofs.DedbLemmas.{AreaKeeps, area_keeps, SegmentKeeps, segment_keeps}
+use Rattle.def_tables.proofs.KeyLemmas.{within-ok, from_test}
 use Rattle.fp_defs.proofs.MsdbLemmas.{new_name-is}
 use Rattle.fp_defs.proofs.SegmentLemmas.{have_places, each_fits}
 use Rattle.def_tables.proofs.Steps.{ok_step}
+use Rattle.std.proofs.lemmas.Bool.{or_cases}
+use Rattle.plain_laws.proofs.Lists.{map_twice}
 
 -- ---- types together
 
@@ -53,12 +55,8 @@ apart_names name xs distinct = subst (IsDistinct same_text) (sym (map_twice name
 
 -- ---- the size of an interval, and tables
 
-size_by : (b : Bool) (n m : ℕ) (fault : DefsFault) → cond b (Ok n) (Err fault) ≡ Ok m → (b ≡ true) × (n ≡ m)
-size_by true n m fault e = (refl, cc)
-size_by false n m fault e = absurd (cc)
-
 size_in-is : (z : ℤ) (n : ℕ) → size_in z ≡ Ok n → is_interval_size n ≡ true
-size_in-is (pos m) n e = let h = size_by (is_interval_size m) m n (OutOfLimit (codes "ci") (pos m)) e in
+size_in-is (pos m) n e = let h = from_test (is_interval_size m) m n (OutOfLimit (codes "ci") (pos m)) e in
     subst (λ (k : ℕ). is_interval_size k ≡ true) h.1 h.0
 size_in-is (negsuc m) n e = absurd (cc)
 
@@ -69,17 +67,13 @@ interval_size-is table n e =
     let read = ok_step (or_fault (BadField (codes "ci")) (as_integer value.0)) size_in n value.2 in
     size_in-is read.0 n read.2
 
-either : (a b : Bool) → (a || b) ≡ true → (a ≡ true) ⊎ (b ≡ true)
-either true b e = inl refl
-either false b e = inr e
-
 size_among : (n : ℕ) → is_interval_size n ≡ true → Contains (512 ∷ 1024 ∷ 2048 ∷ 4096 ∷ []) n
 size_among n e =
-    elim (either (n == 512 || n == 1024 || n == 2048) (n == 4096) e) [
+    elim (or_cases (n == 512 || n == 1024 || n == 2048) (n == 4096) e) [
       | inr d ↦ let is : n ≡ 4096 = grind (arith, nat_tests) in (3, omega arith, sym is)
-      | inl abc ↦ elim (either (n == 512 || n == 1024) (n == 2048) abc) [
+      | inl abc ↦ elim (or_cases (n == 512 || n == 1024) (n == 2048) abc) [
         | inr c ↦ let is : n ≡ 2048 = grind (arith, nat_tests) in (2, omega arith, sym is)
-        | inl ab ↦ elim (either (n == 512) (n == 1024) ab) [
+        | inl ab ↦ elim (or_cases (n == 512) (n == 1024) ab) [
           | inr b ↦ let is : n ≡ 1024 = grind (arith, nat_tests) in (1, omega arith, sym is)
           | inl a ↦ let is : n ≡ 512 = grind (arith, nat_tests) in (0, omega arith, sym is)
         ]

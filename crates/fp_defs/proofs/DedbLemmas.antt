@@ -1,5 +1,5 @@
 -- A data entry database that is read is well formed.
-use Rattle.std.proofs.Common.{◌≡◌, ℕ, zero, suc, ◌+◌, ◌<◌, List, [], ◌∷◌, ◌++◌, length, map, Bool, true, false, cond, not, ◌&&◌, ◌==◌, ◌⊎◌, inl, inr, Option, Some, None, unwrap_or, Ok, Err, ℤ, pos, negsuc, codes, refl, ap, subst, ◌∙◌, arith}
+use Rattle.std.proofs.Common.{◌≡◌, ℕ, zero, suc, ◌+◌, ◌<◌, List, [], ◌∷◌, ◌++◌, length, Bool, true, false, cond, not, ◌&&◌, ◌==◌, ◌⊎◌, inl, inr, Option, Some, None, unwrap_or, Ok, Err, ℤ, pos, negsuc, codes, refl, ap, subst, ◌∙◌, arith}
 use Rattle.std.specs.Prelude.{IfSome, slice_get}
 use Rattle.std.specs.List.{position_from}
 use Rattle.std.specs.Option.{option_map_or}
@@ -26,11 +26,7 @@ use Rattle.fp_defs.proofs.LayoutLemmas.{layout_keeps, name_at-is}
 use Rattle.fp_defs.proofs.MsdbLemmas.{new_name-is}
 use Rattle.fp_defs.proofs.SegmentLemmas.{segment_read, found_below}
 use Rattle.def_tables.proofs.Steps.{ok_step, ok_same, some_from_ok}
-
--- two maps, one behind the other
-pub map_twice : {A B D : Type 0} (f : A → B) (g : B → D) (xs : List A) → map g (map f xs) ≡ map (λ x. g (f x)) xs
-map_twice f g [] = refl
-map_twice f g (x ∷ xs) = ap (λ ys. g (f x) ∷ ys) (map_twice f g xs)
+use Rattle.plain_laws.proofs.Truths.{not_true, second_of_both}
 
 -- ---- areas
 
@@ -114,14 +110,6 @@ found_by : (b : Bool) (i n : ℕ) (rest : Option ℕ) → cond b (Some i) rest �
 found_by true i n rest e = inl (refl, cc)
 found_by false i n rest e = inr (refl, e)
 
-both-second : (a b : Bool) → (a && b) ≡ true → b ≡ true
-both-second true b e = e
-both-second false b e = absurd (cc)
-
-not_true : (b : Bool) → not b ≡ true → b ≡ false
-not_true true e = absurd (cc)
-not_true false e = refl
-
 -- what stands at a place that was found, counted from another on
 found_direct : (text : List ℕ) (i : ℕ) (defs : List SegDef) (n k : ℕ)
     → position_from (λ def. same_text def.name.0 text && not def.sequential) i defs ≡ Some n → n ≡ i + k
@@ -130,7 +118,7 @@ found_direct text i [] n k e is p there = absurd (cc)
 found_direct text i (def ∷ defs) n zero e is p there =
     elim (found_by (same_text def.name.0 text && not def.sequential) i n (position_from _ (i + 1) defs) e) [
       | inl h ↦ let same : def ≡ p = cc in subst (λ (d : SegDef). d.sequential ≡ false) same
-          (not_true def.sequential (both-second (same_text def.name.0 text) (not def.sequential) h.0))
+          (not_true def.sequential (second_of_both (same_text def.name.0 text) (not def.sequential) h.0))
       | inr h ↦ let below = found_below _ (i + 1) defs n h.1 in absurd (omega arith)
     ]
 found_direct text i (def ∷ defs) n (suc k) e is p there =

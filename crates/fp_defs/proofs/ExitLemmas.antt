@@ -1,11 +1,12 @@
 -- Whether there is an exit of a kind: a look-up finds one exactly where the kinds have it.
-use Rattle.std.proofs.Common.{◌≡◌, Bool, true, false, ◌||◌, List, [], ◌∷◌, map, refl}
+use Rattle.std.proofs.Common.{◌≡◌, Bool, true, false, List, [], ◌∷◌, map, refl}
 use Rattle.std.specs.Prelude.{All, ◌↔◌}
 use Rattle.std.proofs.lemmas.List.Elements.{All-nil, All-cons, All-map, All-weaker}
 use Rattle.std.proofs.lemmas.List.Folds.{list_any_none}
 use Rattle.fp_model.specs.declared.definitions.Kind.{Kind}
 use Rattle.fp_model.specs.declared.definitions.Kind.TheVariants.{Fold, Range}
 use Rattle.fp_exits.specs.Kinds.{same_kind, has_kind}
+use Rattle.std.proofs.lemmas.Bool.{or_parts}
 
 differs : (a b : Kind) → same_kind a b ≡ false → ¬ (b ≡ a)
 differs Fold Fold e same = absurd (cc)
@@ -19,15 +20,11 @@ is_other Fold Range d = refl
 is_other Range Fold d = refl
 is_other Range Range d = absurd (d refl)
 
-neither : (a b : Bool) → (a || b) ≡ false → (a ≡ false) × (b ≡ false)
-neither true b e = absurd (cc)
-neither false b e = (refl, e)
-
 all_others : {X : Type 0} (f : X → Kind) (kind : Kind) (xs : List X) → has_kind (map f xs) kind ≡ false
     → All (λ x. ¬ (f x ≡ kind)) xs
 all_others f kind [] e = All-nil (λ x. ¬ (f x ≡ kind))
 all_others f kind (x ∷ xs) e =
-    let h = neither (same_kind kind (f x)) (has_kind (map f xs) kind) e in
+    let h = or_parts (same_kind kind (f x)) (has_kind (map f xs) kind) e in
     All-cons (λ y. ¬ (f y ≡ kind)) x xs (differs kind (f x) h.0) (all_others f kind xs h.1)
 
 none_has : {X : Type 0} (f : X → Kind) (kind : Kind) (xs : List X) → All (λ x. ¬ (f x ≡ kind)) xs

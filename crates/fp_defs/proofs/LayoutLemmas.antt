@@ -22,7 +22,9 @@ use Rattle.fp_defs.proofs.Distinct.{all_once-distinct}
 use Rattle.def_tables.proofs.FieldLemmas.{Fits, triples-fit}
 use Rattle.def_tables.proofs.KeyLemmas.{within-ok}
 use Rattle.def_tables.proofs.Steps.{ok_step, some_from_ok}
-use Rattle.def_tables.proofs.ValueSteps.{some_step, each_has}
+use Rattle.def_tables.proofs.ValueSteps.{each_has}
+use Rattle.plain_laws.proofs.Truths.{first_false, first_of_both, second_false, second_of_both}
+use Rattle.model_laws.proofs.Texts.{some_step}
 
 -- ---- names
 
@@ -41,14 +43,6 @@ as_name-is d name e = let s = some_step (as_str d) name_in name e in is_name-fro
 other_by : (b : Bool) (read name : Name) → cond b None (Some read) ≡ Some name → (b ≡ false) × (read ≡ name)
 other_by true read name e = absurd (cc)
 other_by false read name e = (refl, cc)
-
-first_false : (a b : Bool) → (a || b) ≡ false → a ≡ false
-first_false true b e = e
-first_false false b e = refl
-
-second_false : (a b : Bool) → (a || b) ≡ false → b ≡ false
-second_false true b e = absurd (cc)
-second_false false b e = e
 
 field_name-is : (d : Data) (name : Name) → as_field_name d ≡ Some name → IsFieldName name
 unfolding as_field_name
@@ -125,19 +119,11 @@ characters-C H e = absurd (cc)
 characters-C F e = absurd (cc)
 characters-C P e = absurd (cc)
 
-both-first : (a b : Bool) → (a && b) ≡ true → a ≡ true
-both-first true b e = refl
-both-first false b e = e
-
-both-second : (a b : Bool) → (a && b) ≡ true → b ≡ true
-both-second true b e = e
-both-second false b e = absurd (cc)
-
 key_in_front : (ts : List Triple) → begins_with_key ts ≡ true → 1 ≤ length ts → BeginsWithKey (laid_out 0 ts)
 key_in_front [] e some = absurd (omega arith)
 key_in_front (t ∷ ts) e some =
-    let short : nat_le t.length 64 ≡ true = both-second (is_characters t.kind) (nat_le t.length 64) e in
-    (characters-C t.kind (both-first (is_characters t.kind) (nat_le t.length 64) e), grind (arith, nat_tests))
+    let short : nat_le t.length 64 ≡ true = second_of_both (is_characters t.kind) (nat_le t.length 64) e in
+    (characters-C t.kind (first_of_both (is_characters t.kind) (nat_le t.length 64) e), grind (arith, nat_tests))
 
 key_by : (b : Bool) (done : ⊤) → cond (not b) (Err (BadField (codes "fields"))) (Ok tt) ≡ Ok done → b ≡ true
 key_by true done e = refl

@@ -27,24 +27,18 @@ use Rattle.def_tables.specs.declared.keys.Form.TheVariants.{Msdb}
 use Rattle.fp_defs.proofs.Distinct.{no_texts, all_once-distinct, once-new}
 use Rattle.fp_defs.proofs.LayoutLemmas.{layout_keeps, name_at-is}
 use Rattle.def_tables.proofs.Steps.{ok_step, some_from_ok}
-use Rattle.def_tables.proofs.ValueSteps.{some_step, each_has}
+use Rattle.def_tables.proofs.ValueSteps.{each_has}
+use Rattle.plain_laws.proofs.Truths.{first_of_both, second_of_both}
+use Rattle.model_laws.proofs.Texts.{some_step}
 
 -- ---- fields that are loaded
-
-both-first : (a b : Bool) → (a && b) ≡ true → a ≡ true
-both-first true b e = refl
-both-first false b e = e
-
-both-second : (a b : Bool) → (a && b) ≡ true → b ≡ true
-both-second true b e = e
-both-second false b e = absurd (cc)
 
 printable_blanks : (text : List ℕ) (n : ℕ) → list_all is_printable text ≡ true
     → list_all is_printable (text ++ replicate n 32) ≡ true
 printable_blanks [] zero e = refl
 printable_blanks [] (suc n) e = printable_blanks [] n refl
-printable_blanks (b ∷ bs) n e = rw (both-first (is_printable b) (list_all is_printable bs) e)
-    (printable_blanks bs n (both-second (is_printable b) (list_all is_printable bs) e))
+printable_blanks (b ∷ bs) n e = rw (first_of_both (is_printable b) (list_all is_printable bs) e)
+    (printable_blanks bs n (second_of_both (is_printable b) (list_all is_printable bs) e))
 
 -- bytes that fill a field and hold what a loaded field may
 abbrev IsFilled : FieldKind → ℕ → List ℕ → Type 0
@@ -57,14 +51,14 @@ text_by false made bytes e = absurd (cc)
 text_filled : (size : ℕ) (text bytes : List ℕ) → text_loaded size text ≡ Some bytes → IsFilled C size bytes
 text_filled size text bytes e =
     let h = text_by (list_all is_printable text && nat_le (length text) size) (padded size text) bytes e in
-    let fits : nat_le (length text) size ≡ true = both-second (list_all is_printable text) (nat_le (length text) size)
+    let fits : nat_le (length text) size ≡ true = second_of_both (list_all is_printable text) (nat_le (length text) size)
     h.0 in
     let within : length text ≤ size = grind (arith, nat_tests) in
     let filled : length (padded size text) ≡ size = simp (length-append, length-replicate) (omega arith) in
     subst (IsFilled C size) h.1 (
       filled,
       printable_blanks text (size - length text)
-          (both-first (list_all is_printable text) (nat_le (length text) size) h.0),
+          (first_of_both (list_all is_printable text) (nat_le (length text) size) h.0),
     )
 
 if_some : (kind : FieldKind) (size : ℕ) (o : Option ℤ) (bytes : List ℕ) → bytes_if kind size o ≡ Some bytes → (n : ℤ)

@@ -13,9 +13,7 @@ use Rattle.fp_defs.specs.Exits.{first_lacking, lacking, with_exits, defs_for}
 use Rattle.def_tables.specs.declared.fault.DefsFault.{DefsFault}
 use Rattle.def_tables.specs.declared.fault.DefsFault.TheVariants.{NoExit}
 use Rattle.def_tables.proofs.Steps.{ok_step}
-
-some_not_none : {X : Type 0} (x : X) → Some x ≡ None → ⊥
-some_not_none x e = cc
+use Rattle.plain_laws.proofs.Options.{some_isnt_none}
 
 -- there are exits of every kind
 abbrev pub HasAllKinds : Kinds → Type 0
@@ -61,7 +59,7 @@ each_there there (d ∷ ds) none = by (has_kind there d.randomizer) refl (each_t
         → AllByRecursion (λ e. has_kind there e.randomizer ≡ true) ds)
         → AllByRecursion (λ e. has_kind there e.randomizer ≡ true) (d ∷ ds)
     by true e later = (e, later (sym (rest (has_kind there d.randomizer) e) ∙ none))
-    by false e later = absurd (some_not_none d.randomizer (sym (first (has_kind there d.randomizer) e) ∙ none))
+    by false e later = absurd (some_isnt_none d.randomizer (sym (first (has_kind there d.randomizer) e) ∙ none))
 
 -- and each randomizer
 pub randomizers_there : (kinds : Kinds) (defs : Defs) → lacking kinds defs ≡ None

@@ -4,7 +4,7 @@ use Rattle.std.specs.Prelude.{⊤, Contains, flat_map, IfOk}
 use Rattle.std.specs.List.{AllByRecursion, IsDistinct, list_any}
 use Rattle.std.specs.Option.{option_map_or}
 use Rattle.std.proofs.lemmas.Bool.Decides.{nat_tests}
-use Rattle.std.proofs.lemmas.Bool.{cases_lt}
+use Rattle.std.proofs.lemmas.Bool.{cases_lt, or_cases}
 use Rattle.std.proofs.lemmas.Grind.{flat_map-append}
 use Rattle.std.proofs.lemmas.List.{map-append}
 use Rattle.toml.specs.Data.{Data, Items, Members, get_member, as_integer, as_array}
@@ -27,11 +27,12 @@ use Rattle.def_tables.specs.declared.fault.DefsFault.TheVariants.{NotToml, OutOf
 use Rattle.def_tables.specs.declared.keys.Form.TheVariants.{Top}
 use Rattle.fp_defs.proofs.Beside.{Beside, IsRead, read_in_turn, beside_map, beside_each}
 use Rattle.fp_defs.proofs.Distinct.{no_texts, nothing_more, distinct_beside}
-use Rattle.fp_defs.proofs.DedbLemmas.{map_twice, number_or-within, number_within-within}
+use Rattle.fp_defs.proofs.DedbLemmas.{number_or-within, number_within-within}
 use Rattle.fp_defs.proofs.DedbKeeps.{DedbKeeps, dedb_keeps}
 use Rattle.def_tables.proofs.KeyLemmas.{within-ok, within-any}
 use Rattle.fp_defs.proofs.MsdbLemmas.{MsdbKeeps, msdb_keeps}
 use Rattle.def_tables.proofs.Steps.{ok_step, ok_same}
+use Rattle.plain_laws.proofs.Lists.{greatest_from, map_twice}
 
 -- ---- groups
 
@@ -57,22 +58,13 @@ from_not : (b : Bool) → not b ≡ false → b ≡ true
 from_not true e = refl
 from_not false e = absurd (cc)
 
-either : (a b : Bool) → (a || b) ≡ true → (a ≡ true) ⊎ (b ≡ true)
-either true b e = inl refl
-either false b e = inr e
-
 found_contains : (groups : List ℕ) (g : ℕ) → list_any (λ h. h == g) groups ≡ true → Contains groups g
 found_contains [] g e = absurd (cc)
 found_contains (h ∷ hs) g e =
-    elim (either (h == g) (list_any (λ k. k == g) hs) e) [
+    elim (or_cases (h == g) (list_any (λ k. k == g) hs) e) [
       | inl here ↦ (0, omega arith, grind (arith, nat_tests))
       | inr later ↦ let r = found_contains hs g later in (suc r.0, omega (arith, r.1), r.2)
     ]
-
--- the greatest is none below
-greatest_from : (groups : List ℕ) (most : ℕ) → most ≤ fold max most groups
-greatest_from [] most = omega arith
-greatest_from (g ∷ gs) most = let r = greatest_from gs (max most g) in grind arith
 
 greatest_above : (groups : List ℕ) (most k g : ℕ) → k < length groups → get_or groups k g ≡ g → g ≤ fold max most groups
 greatest_above [] most k g within is = absurd (omega arith)

@@ -6,25 +6,7 @@ use Rattle.fp_model.specs.Names.{is_letter_or_digit, is_name}
 use Rattle.fp_model.specs.Messages.{first_word, terminal_of}
 use Rattle.fp_model.specs.ReplyLine.{addressee}
 use Rattle.fp_model.specs.declared.name.Name.{Name}
-
-found_is : (test : Bool) (n i : ℕ) → cond test (Some n) None ≡ Some i → n ≡ i
-found_is true n i e = search rules
-found_is false n i e = search rules
-
--- the place that was found is where the first word ends
-pub place_is : {X : Type 0} (p : X → Bool) (xs : List X) (i : ℕ)
-    → cond (nat_lt (position_or_len p xs) (length xs)) (Some (position_or_len p xs)) None ≡ Some i
-    → position_or_len p xs ≡ i
-place_is p xs i e = found_is _ _ _ e
-
-none_is : (n m : ℕ) → cond (nat_lt n m) (Some n) None ≡ None → m ≤ n
-none_is n m e = grind (arith, rules)
-
--- where none was found the word is the whole
-pub whole_is : {X : Type 0} (p : X → Bool) (xs : List X)
-    → cond (nat_lt (position_or_len p xs) (length xs)) (Some (position_or_len p xs)) None ≡ None
-    → length xs ≤ position_or_len p xs
-whole_is p xs e = none_is _ _ e
+use Rattle.plain_laws.proofs.Truths.{first_of_both, second_of_both}
 
 -- blanks alone leave nothing
 trimmed-blanks : (n : ℕ) → trimmed (replicate n 32) ≡ []
@@ -36,21 +18,13 @@ in_front-fair : (b : ℕ) (text : List ℕ) → is_letter_or_digit b ≡ true �
 in_front-fair b [] e = search rules
 in_front-fair b (c ∷ cs) e = refl
 
-both-first : (a b : Bool) → (a && b) ≡ true → a ≡ true
-both-first true b e = refl
-both-first false b e = e
-
-both-second : (a b : Bool) → (a && b) ≡ true → b ≡ true
-both-second true b e = e
-both-second false b e = search rules
-
 -- a text of letters and digits loses only the blanks behind it
 trimmed-fair : (text : List ℕ) (n : ℕ) → list_all is_letter_or_digit text ≡ true
     → trimmed (text ++ replicate n 32) ≡ text
 trimmed-fair [] n e = trimmed-blanks n
 trimmed-fair (b ∷ bs) n e =
-    ap (in_front b) (trimmed-fair bs n (both-second (is_letter_or_digit b) (list_all is_letter_or_digit bs) e))
-    ∙ in_front-fair b bs (both-first (is_letter_or_digit b) (list_all is_letter_or_digit bs) e)
+    ap (in_front b) (trimmed-fair bs n (second_of_both (is_letter_or_digit b) (list_all is_letter_or_digit bs) e))
+    ∙ in_front-fair b bs (first_of_both (is_letter_or_digit b) (list_all is_letter_or_digit bs) e)
 
 told_by : (test : Bool) (word : List ℕ) (name : Name) → test ≡ true → trimmed name.0 ≡ word
     → word ≡ addressee (if test then Some name else None)
@@ -61,4 +35,4 @@ told_by false word name e is = search rules
 pub told_is : (line : List ℕ) → is_name (first_word line) ≡ true → first_word line ≡ addressee (terminal_of line)
 told_is line e =
     told_by (is_name (first_word line)) (first_word line) (record { 0 = padded 8 (first_word line) }) e
-    (trimmed-fair (first_word line) (8 - length (first_word line)) (both-second _ _ e))
+    (trimmed-fair (first_word line) (8 - length (first_word line)) (second_of_both _ _ e))

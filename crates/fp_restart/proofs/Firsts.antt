@@ -9,10 +9,10 @@ use Rattle.fp_model.specs.declared.log.Item.{Item}
 use Rattle.fp_model.specs.declared.log.Item.TheVariants.{Segment, Image, Range}
 use Rattle.fp_model.specs.ItemTargets.{names_interval}
 use Rattle.fp_model.specs.Items.{AreFit, IsFit, begins_with_image, is_image}
-use Rattle.log_groups.proofs.LogImages.{all-append}
 use Rattle.fp_restart.specs.inside.Begun.{Begins, IsBegunBy, IsJudged, Judges, has_begun}
 use Rattle.fp_restart.specs.declared.begun.Begun.{Begun}
 use Rattle.fp_restart.proofs.Fits.{all-back, all-front}
+use Rattle.plain_laws.proofs.Alls.{all_append}
 
 true_is_not_false : true ≡ false → ⊥
 true_is_not_false e = cc
@@ -78,7 +78,7 @@ module _ (defs : Defs) where
   -- two lists that each may be applied may be, one behind the other
   pub fit-append : (xs ys : List Item) → AreFit defs xs → AreFit defs ys → AreFit defs (xs ++ ys)
   fit-append xs ys front rest = record {
-    each = all-append (IsFit defs) xs ys front.each rest.each;
+    each = all_append (IsFit defs) xs ys front.each rest.each;
     begin = λ set ci. by set ci (list_any (names_interval set ci) xs) refl;
   }
     where
@@ -105,7 +105,7 @@ module _ (defs : Defs) where
   fit-one : (xs : List Item) (item : Item) → AreFit defs xs → IsFit defs item → IsBehind xs item
       → AreFit defs (xs ++ item ∷ [])
   fit-one xs item front fit behind = record {
-    each = all-append (IsFit defs) xs (item ∷ []) front.each (fit, tt);
+    each = all_append (IsFit defs) xs (item ∷ []) front.each (fit, tt);
     begin = λ set ci. by set ci (list_any (names_interval set ci) xs) refl;
   }
     where

@@ -2,35 +2,22 @@
 use Rattle.std.proofs.Common.{◌≡◌, ℕ, ◌+◌, ◌<◌, List, [], ◌∷◌, ◌++◌, length, take, get_or, sym, ap, subst, ◌∙◌}
 use Rattle.std.specs.List.{AllByRecursion}
 use Rattle.std.proofs.lemmas.List.{append-nil, take_more}
-use Rattle.std.proofs.lemmas.List.Concat.{flat_map-cons, flat_map-append}
+use Rattle.std.proofs.lemmas.List.Concat.{flat_map-cons}
 use Rattle.std.proofs.lemmas.List.Sums.{fold-append}
-use Rattle.fp_model.specs.Groups.{entries_of}
 use Rattle.fp_model.specs.Items.{with_item, with_items, items_of}
 use Rattle.fp_model.specs.declared.database.Msdb.{Msdb}
 use Rattle.fp_model.specs.declared.definitions.MsdbDef.{MsdbDef}
 use Rattle.fp_model.specs.declared.log.Entry.{Entry}
 use Rattle.fp_model.specs.declared.log.Item.{Item}
 use Rattle.log_format.proofs.Lists.{element}
-use Rattle.log_groups.proofs.LogImages.{all-append}
+use Rattle.model_laws.proofs.Entries.{items-append}
+use Rattle.plain_laws.proofs.Alls.{all_append}
 
 -- ---- items
-
--- the items of entries behind entries
-pub items-append : (es fs : List Entry) → items_of (es ++ fs) ≡ items_of es ++ items_of fs
-items-append es fs = flat_map-append (λ e. e.items) es fs
 
 -- the items of one entry
 items-single : (e : Entry) → items_of (e ∷ []) ≡ e.items
 items-single e = flat_map-cons (λ x. x.items) e [] ∙ append-nil e.items
-
--- of groups behind groups
-pub entries-append : (gs hs : List (List Entry)) → entries_of (gs ++ hs) ≡ entries_of gs ++ entries_of hs
-entries-append gs hs = flat_map-append (λ (es : List Entry). es) gs hs
-
--- and of a further one
-pub entries-more : (gs : List (List Entry)) (es : List Entry) → entries_of (gs ++ es ∷ []) ≡ entries_of gs ++ es
-entries-more gs es = entries-append gs (es ∷ []) ∙ ap (λ l. entries_of gs ++ l)
-    (flat_map-cons (λ (x : List Entry). x) es [] ∙ append-nil es)
 
 -- ---- all of a list
 
@@ -59,7 +46,7 @@ pub all-next : (P : Item → Type 0) (es : List Entry) (i : ℕ) (e : Entry) →
     → AllByRecursion P (items_of (take i es)) → AllByRecursion P e.items
     → AllByRecursion P (items_of (take (i + 1) es))
 all-next P es i e lt is front more = subst (AllByRecursion P) (sym (items-next es i e lt is))
-    (all-append P (items_of (take i es)) e.items front more)
+    (all_append P (items_of (take i es)) e.items front more)
 
 of_all : (P : Item → Type 0) (es : List Entry) → AllByRecursion P (items_of es)
     → AllByRecursion (λ e. AllByRecursion P e.items) es

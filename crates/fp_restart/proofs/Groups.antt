@@ -1,5 +1,5 @@
 -- Groups that were read one after another, and what a whole reading has of them.
-use Rattle.std.proofs.Common.{◌≡◌, ◌⊎◌, inl, inr, ⊎_elim, ℕ, ◌+◌, ◌<◌, ◌≤◌, ◌^◌, max, List, [], ◌∷◌, ◌++◌, length, drop, refl, sym, ◌∙◌, ap, arith, append_assoc}
+use Rattle.std.proofs.Common.{◌≡◌, ◌⊎◌, inl, inr, ⊎_elim, ℕ, ◌+◌, ◌<◌, ◌≤◌, ◌^◌, max, List, [], ◌∷◌, ◌++◌, length, drop, refl, sym, ◌∙◌, ap, arith}
 use Rattle.std.specs.Prelude.{◌≢◌, slice_index}
 use Rattle.std.specs.List.{AllByRecursion}
 use Rattle.std.proofs.lemmas.List.{length-append, length-drop, append-nil, drop_at, drop-drop}
@@ -9,9 +9,9 @@ use Rattle.fp_model.specs.Spellings.{be64}
 use Rattle.fp_model.specs.LogText.{body_text, entry_text, group_text, groups_text, rest_text}
 use Rattle.fp_model.specs.Groups.{Groups, Damage, HoldsGroups, IsGroup, LogReading, Reads}
 use Rattle.log_format.proofs.Fields.{length-be64}
-use Rattle.log_format.proofs.GroupLaws.{one_group, one_reading}
-use Rattle.log_groups.proofs.LogImages.{head_is}
+use Rattle.log_format.proofs.GroupLaws.{one_group, one_reading, groups-cons}
 use Rattle.log_groups.specs.Reads.{HasGroup}
+use Rattle.plain_laws.proofs.Lists.{head_is}
 
 -- ---- how long a group is
 
@@ -42,11 +42,6 @@ stands_further bytes at es next has small =
     (omega (arith, long), omega (arith, long, all, length-drop at bytes), omega (arith, long))
 
 -- ---- two ways through the same bytes
-
-pub groups-cons : (es : List Entry) (gs : List (List Entry)) (rest : List ℕ)
-    → groups_text (es ∷ gs) ++ rest ≡ group_text es ++ (groups_text gs ++ rest)
-groups-cons es gs rest = ap (λ (t : List ℕ). t ++ rest) (flat_map-cons group_text es gs) ∙ append_assoc (group_text es)
-    (groups_text gs) rest
 
 -- the second list of groups goes on where the first ends, over what is left there
 abbrev pub GoesFurther : (gs hs : List (List Entry)) (x y : List ℕ) → Type 0

@@ -7,11 +7,7 @@ use Rattle.std.specs.Ordering.{is_eq, nat_cmp, ordering_then}
 use Rattle.std.specs.declared.cmp.Ordering.{Ordering}
 use Rattle.std.specs.declared.cmp.Ordering.TheVariants.{Less, Equal, Greater}
 use Rattle.fp_restart.specs.inside.Begun.{interval_cmp}
-
-then_test : (o p : Ordering) → is_eq (ordering_then o p) ≡ (is_eq o && is_eq p)
-then_test Less p = refl
-then_test Equal p = refl
-then_test Greater p = refl
+use Rattle.plain_laws.proofs.Orderings.{then_test}
 
 number_test : (a b : ℕ) → is_eq (nat_cmp a b) ≡ (b == a)
 number_test a b = grind (arith, nat_tests)

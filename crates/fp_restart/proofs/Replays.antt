@@ -24,7 +24,7 @@ use Rattle.fp_model.specs.SerialHistory.{IsSerialHistory}
 use Rattle.fp_model.specs.State.{start}
 use Rattle.fp_site.specs.Disk.{Disk, IsDurable}
 use Rattle.fp_site.proofs.Images.{durable_settles}
-use Rattle.log_format.proofs.GroupLaws.{one_group}
+use Rattle.log_format.proofs.GroupLaws.{one_group, groups-cons}
 use Rattle.log_groups.proofs.LogImages.{groups_more}
 use Rattle.log_groups.specs.Images.{IsAtRest, IsKept, IsLog}
 use Rattle.log_groups.specs.Kept.{IsSafe, IsSound}
@@ -36,9 +36,9 @@ use Rattle.fp_restart.specs.Replayed.{HoldsFit, IsFirstBadAt, IsFollowed, IsRead
 use Rattle.fp_restart.specs.declared.numbers.Numbers.{Numbers}
 use Rattle.fp_restart.specs.Restarts.{HasUnfit, IsBadAt, StandsFor}
 use Rattle.fp_restart.proofs.Firsts.{fit-front, fit-nothing}
-use Rattle.fp_restart.proofs.Fits.{entries-append, entries-more, items-append}
 use Rattle.fp_restart.proofs.NumbersBehind.{format_both, lasts_both}
-use Rattle.fp_restart.proofs.Groups.{GoesFurther, group_opens, groups-cons, one_goes_further, same_reading}
+use Rattle.fp_restart.proofs.Groups.{GoesFurther, group_opens, one_goes_further, same_reading}
+use Rattle.model_laws.proofs.Entries.{entries-append, entries_push, items-append}
 
 -- fit items are fit for the store
 pub fit_segments : (defs : Defs) (items : List Item) → AllByRecursion (IsFit defs) items
@@ -87,7 +87,7 @@ module _ (defs : Defs) (log : List ℕ) where
   followed_more first format at next count more old new numbers numbers2 before mid now so_far taken =
       let gs = so_far.replayed.groups in
       let es = taken.entries in
-      let all : entries_of (gs ++ es ∷ []) ≡ entries_of gs ++ es = entries-more gs es in
+      let all : entries_of (gs ++ es ∷ []) ≡ entries_of gs ++ es = entries_push gs es in
       let items : items_of (entries_of (gs ++ es ∷ [])) ≡ items_of (entries_of gs) ++ items_of es =
       ap items_of all ∙ items-append (entries_of gs) es in
       record {

@@ -1,4 +1,5 @@
 //! Making storage anew.
+ghost use Rattle.fp_lists.specs.Continued.{IsContinued};
 ghost use Rattle.fp_model.specs.LogText.{FitsFront, first_gate, log_text};
 ghost use Rattle.fp_restart.specs.declared.fault.RestartFault.TheVariants as faults;
 ghost use Rattle.fp_site.specs.Disk.{Differs, IsDurable, Settles};
@@ -37,7 +38,6 @@ pub fn define<T: Site>(
         → OnOk result (IsSafe defs.now scripts (as_front front.now) (T.disk site.new) []) }
     ensures cause { IsErrOf result faults.SiteFault → (T.faults site.old < T.faults site.new)
         ⊎ (T.faults site.new ≡ 2 ^ 64 - 1) }
-    ensures later { T.faults site.old ≤ T.faults site.new }
     ensures stayed { (IsErrOf result faults.SiteFault → ⊥) → T.faults site.new ≡ T.faults site.old }
     ensures never { (IsErrOf result faults.Foreign → ⊥) × ((set at : ℕ) → IsErrOf result (faults.Damaged set at) → ⊥) }
 
@@ -49,9 +49,7 @@ pub fn define<T: Site>(
     ensures only_log { ReadsOnlyLog (T.tells_reads site.old) (T.tells_reads site.new) (T.bytes_read site.old)
         (T.bytes_read site.new) }
     ensures few { T.tells_reads site.new 0 → T.bytes_read site.new 0 ≤ T.bytes_read site.old 0 + 1 }
-    ensures told { T.told site.old → T.told site.new }
-    ensures holds { T.holds site.new ≡ T.holds site.old }
-    ensures keeps { (first : T) → T.keeps first site.old → T.keeps first site.new }
+    ensures site { IsContinued T.told T.faults T.holds T.keeps site.old site.new }
 
     // A crash at any moment leaves the log as a sync might have left it before, or with no open front, or made.
     ensures crash { T.told site.old → Through (T.disk site.old) (T.disk site.new)

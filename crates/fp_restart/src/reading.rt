@@ -1,4 +1,5 @@
 //! Reading the groups of a log, and putting their segments.
+ghost use Rattle.fp_lists.specs.Continued.{IsContinued};
 ghost use Rattle.fp_model.specs.Groups.{Groups, Reads};
 ghost use Rattle.fp_model.specs.Items.{AreFit, with_items, items_of};
 ghost use Rattle.fp_model.specs.State.{start};
@@ -73,7 +74,6 @@ pub(crate) fn read_parts<T: Site>(
         → BeginsFor (as_front front.now) ((T.disk site.old).contents 0) }
     ensures cause { IsErrOf result faults.SiteFault → (T.faults site.old < T.faults site.new)
         ⊎ (T.faults site.new ≡ 2 ^ 64 - 1) }
-    ensures later { T.faults site.old ≤ T.faults site.new }
     ensures stayed { (IsErrOf result faults.SiteFault → ⊥) → T.faults site.new ≡ T.faults site.old }
 
     // Nothing changes. Of a log with groups up to a closed gate the front, these and that gate are read at most, each
@@ -91,9 +91,7 @@ pub(crate) fn read_parts<T: Site>(
     ensures only_log { ReadsOnlyLog (T.tells_reads site.old) (T.tells_reads site.new) (T.bytes_read site.old)
         (T.bytes_read site.new) }
     ensures stays { T.told site.old → Stays (T.disk site.old) (T.disk site.new) }
-    ensures told { T.told site.old → T.told site.new }
-    ensures holds { T.holds site.new ≡ T.holds site.old }
-    ensures keeps { (first : T) → T.keeps first site.old → T.keeps first site.new }
+    ensures site { IsContinued T.told T.faults T.holds T.keeps site.old site.new }
 {
     let mut log = Log::open(alloc, site, front)?;
     let mut store = MsdbStore::start(alloc, defs)?;
@@ -124,7 +122,6 @@ fn replay<T: Site>(
         (set ≡ 0) × IsFirstBadAt defs.now ((T.disk site.old).contents 0) log.old.gate at }
     ensures cause { IsErrOf result faults.SiteFault → (T.faults site.old < T.faults site.new)
         ⊎ (T.faults site.new ≡ 2 ^ 64 - 1) }
-    ensures later { T.faults site.old ≤ T.faults site.new }
     ensures stayed { (IsErrOf result faults.SiteFault → ⊥) → T.faults site.new ≡ T.faults site.old }
     ensures never { IsErrOf result faults.Foreign → ⊥ }
 
@@ -139,9 +136,7 @@ fn replay<T: Site>(
     ensures only_log { ReadsOnlyLog (T.tells_reads site.old) (T.tells_reads site.new) (T.bytes_read site.old)
         (T.bytes_read site.new) }
     ensures stays { T.told site.old → Stays (T.disk site.old) (T.disk site.new) }
-    ensures told { T.told site.old → T.told site.new }
-    ensures holds { T.holds site.new ≡ T.holds site.old }
-    ensures keeps { (first : T) → T.keeps first site.old → T.keeps first site.new }
+    ensures site { IsContinued T.told T.faults T.holds T.keeps site.old site.new }
 {
     let mut begun = Begun::new(alloc);
     let mut numbers = Numbers::new(alloc, log.front_format())?;
@@ -190,7 +185,6 @@ fn take_group<T: Site>(
         → (set ≡ 0) × (place ≡ at) × IsBadAt defs.now ((T.disk site.old).contents 0) earlier at }
     ensures cause { IsErrOf result faults.SiteFault → (T.faults site.old < T.faults site.new)
         ⊎ (T.faults site.new ≡ 2 ^ 64 - 1) }
-    ensures later { T.faults site.old ≤ T.faults site.new }
     ensures stayed { (IsErrOf result faults.SiteFault → ⊥) → T.faults site.new ≡ T.faults site.old }
     ensures never { IsErrOf result faults.Foreign → ⊥ }
     ensures log { log.new ≡ log.old }
@@ -211,9 +205,7 @@ fn take_group<T: Site>(
     ensures only_log { ReadsOnlyLog (T.tells_reads site.old) (T.tells_reads site.new) (T.bytes_read site.old)
         (T.bytes_read site.new) }
     ensures stays { T.told site.old → Stays (T.disk site.old) (T.disk site.new) }
-    ensures told { T.told site.old → T.told site.new }
-    ensures holds { T.holds site.new ≡ T.holds site.old }
-    ensures keeps { (first : T) → T.keeps first site.old → T.keeps first site.new }
+    ensures site { IsContinued T.told T.faults T.holds T.keeps site.old site.new }
 {
     let Some(group) = log.group_at(site, at)? else {
         return Ok(None);

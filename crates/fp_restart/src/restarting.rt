@@ -1,4 +1,5 @@
 //! Restarting.
+ghost use Rattle.fp_lists.specs.Continued.{IsContinued};
 ghost use Rattle.fp_model.specs.Groups.{Groups, Reads};
 ghost use Rattle.fp_model.specs.LogText.{FitsFront, IsFormat, StartsWithFront, first_gate};
 ghost use Rattle.fp_model.specs.WellFormed.{IsMsdbDef};
@@ -80,7 +81,6 @@ pub fn restart<T: Site>(
         (IsReadable defs.now ((T.disk site.old).contents 0) (first_gate (as_front front.now))) }
     ensures cause { IsErrOf result faults.SiteFault → (T.faults site.old < T.faults site.new)
         ⊎ (T.faults site.new ≡ 2 ^ 64 - 1) }
-    ensures later { T.faults site.old ≤ T.faults site.new }
     ensures stayed { (IsErrOf result faults.SiteFault → ⊥) → T.faults site.new ≡ T.faults site.old }
 
     // No contents change, nothing is sent, and a crash at any moment leaves what it might have left before, the log as
@@ -112,9 +112,7 @@ pub fn restart<T: Site>(
         → T.bytes_read site.new 0 ≤ T.bytes_read site.old 0 + length ((T.disk site.old).contents 0) + 1 }
     ensures only_log { ReadsOnlyLog (T.tells_reads site.old) (T.tells_reads site.new) (T.bytes_read site.old)
         (T.bytes_read site.new) }
-    ensures told { T.told site.old → T.told site.new }
-    ensures holds { T.holds site.new ≡ T.holds site.old }
-    ensures keeps { (first : T) → T.keeps first site.old → T.keeps first site.new }
+    ensures site { IsContinued T.told T.faults T.holds T.keeps site.old site.new }
 {
     site.sync(0)?; // what is read is what a crash leaves
     read_parts(alloc, defs, front, site)

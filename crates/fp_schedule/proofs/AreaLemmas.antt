@@ -1,31 +1,13 @@
 -- The place of an area among those of all databases, database by database.
-use Rattle.std.proofs.Common.{◌≡◌, ℕ, suc, ◌+◌, ◌≤◌, ◌<◌, List, [], ◌∷◌, ◌++◌, length, Bool, true, false, cond, not, nat_lt, Option, Some, None, refl, sym, ap, ◌∙◌, arith}
+use Rattle.std.proofs.Common.{◌≡◌, ℕ, suc, ◌+◌, List, [], ◌∷◌, ◌++◌, length, Bool, true, false, cond, Option, Some, None, refl, sym, ap, ◌∙◌, arith}
 use Rattle.std.specs.Prelude.{position, option_map}
 use Rattle.std.specs.List.{position_or_len}
-use Rattle.std.proofs.lemmas.Bool.{lt-ltb, le-ltb, ltb-true, ltb-false}
 use Rattle.fp_model.specs.declared.definitions.AreaDef.{AreaDef}
 use Rattle.fp_model.specs.declared.definitions.DedbDef.{DedbDef}
 use Rattle.fp_model.specs.State.{Area, anchors_in, areas_from, areas_of_all}
+use Rattle.plain_laws.proofs.Places.{first_place}
 
 -- ---- places in lists
-
-next_place : (n len : ℕ) (b : Bool) → nat_lt n len ≡ b
-    → cond (nat_lt (1 + n) (suc len)) (Some (1 + n)) None ≡ option_map suc (cond (nat_lt n len) (Some n) None)
-next_place n len true is =
-    let lt : n < len = ltb-true n len is in
-    let more : nat_lt (1 + n) (suc len) ≡ true = lt-ltb _ _ (omega arith) in
-    let next : 1 + n ≡ suc n = omega arith in
-    rw (more, is) (ap (λ (k : ℕ). Some k) next)
-next_place n len false is =
-    let le : len ≤ n = ltb-false n len is in
-    let more : nat_lt (1 + n) (suc len) ≡ false = le-ltb _ _ (omega arith) in
-    rw (more, is) refl
-
-first_place : (b : Bool) (n len : ℕ)
-    → cond (nat_lt (cond (not b) (1 + n) 0) (suc len)) (Some (cond (not b) (1 + n) 0)) None ≡ cond b (Some 0)
-    (option_map suc (cond (nat_lt n len) (Some n) None))
-first_place true n len = let yes : nat_lt 0 (suc len) ≡ true = lt-ltb _ _ (omega arith) in rw yes refl
-first_place false n len = next_place n len (nat_lt n len) refl
 
 -- a place, or else one behind so many elements
 abbrev or_behind : Option ℕ → ℕ → Option ℕ → Option ℕ

@@ -1,4 +1,3 @@
 pub mod AreaLemmas
 pub mod FaultLemmas
-pub mod PlaceLemmas
 pub mod TokenLemmas

@@ -1,4 +1,3 @@
-pub mod Trimming
 pub mod Pieces
 pub mod Pairs
 pub mod Walking

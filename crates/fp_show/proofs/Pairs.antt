@@ -1,27 +1,8 @@
 -- Loops over what is left of lists: definitions beside states, and elements that are numbered.
-use Rattle.std.proofs.Common.{◌≡◌, ℕ, zero, suc, ◌+◌, ◌<◌, ◌≤◌, List, [], ◌∷◌, ◌++◌, length, drop, get_or, append_assoc, refl, ap, sym, ◌∙◌, arith}
+use Rattle.std.proofs.Common.{◌≡◌, ℕ, zero, suc, ◌≤◌, List, [], ◌∷◌, length, drop, refl, ap, ◌∙◌, arith}
 use Rattle.std.specs.Prelude.{min}
-use Rattle.std.proofs.lemmas.List.{append-nil, drop_all, drop_more}
+use Rattle.std.proofs.lemmas.List.{drop_all}
 use Rattle.fp_show.specs.DbText.{each_text}
-
--- what is left of a list begins with the element
-pub opened : {X : Type 0} (xs : List X) (i : ℕ) (x : X) → i < length xs → x ≡ get_or xs i x
-    → drop i xs ≡ x ∷ drop (i + 1) xs
-opened xs i x lt is = drop_more xs i x lt ∙ ap (λ (y : _). y ∷ drop (i + 1) xs) (sym is)
-
--- a piece that was left is written
-pub written : (into new whole piece rest left : List ℕ) → left ≡ piece ++ rest → into ++ left ≡ whole
-    → new ≡ into ++ piece → new ++ rest ≡ whole
-written into new whole piece rest left parts is made =
-    ap (λ (text : List ℕ). text ++ rest) made
-    ∙ append_assoc into piece rest
-    ∙ ap (λ (text : List ℕ). into ++ text) (sym parts)
-    ∙ is
-
--- nothing is left
-pub all_written : (into whole left : List ℕ) → left ≡ [] → into ++ left ≡ whole → into ≡ whole
-all_written into whole left none is =
-    sym (append-nil into) ∙ ap (λ (text : List ℕ). into ++ text) (sym none) ∙ is
 
 -- behind the end of one of the two nothing is left
 module _ {D S : Type 0} (text : D → S → List ℕ) where

@@ -12,8 +12,8 @@ use Rattle.fp_model.specs.declared.definitions.SegDef.{SegDef}
 use Rattle.fp_model.specs.Order.{Occurrence, Step, at_end, child_types, dependent, direct, key_in, node_order, node_step, numbers_from, root_order, rows_in_order, sequence, sequential_type, sequentials, under}
 use Rattle.fp_show.specs.DbText.{last_type, occurrence_line, typed_line}
 use Rattle.fp_show.specs.inside.Walk.{is_direct, kinds_from, line_below, node_text, root_text, row_text, rows_text, sequentials_text}
-use Rattle.fp_show.proofs.Pairs.{opened}
-use Rattle.fp_show.proofs.Pieces.{flat_map-map}
+use Rattle.std.proofs.lemmas.List.Folds.{flat_map-map}
+use Rattle.plain_laws.proofs.Places.{rest_at}
 
 -- ---- the child types of a type, from a number on
 
@@ -23,11 +23,11 @@ module _ (types : List SegDef) (parent at : ℕ) where
 
   module _ (def : SegDef) (lt : at < length types) (is : def ≡ get_or types at def) where
     pub kinds_other : is_direct parent def ≡ false → kinds_from types parent at ≡ kinds_from types parent (at + 1)
-    kinds_other other = ap children_in (opened types at def lt is) ∙ (rw other refl)
+    kinds_other other = ap children_in (rest_at types at def lt is) ∙ (rw other refl)
 
     pub kinds_next : is_direct parent def ≡ true
         → kinds_from types parent at ≡ at ∷ kinds_from types parent (at + 1)
-    kinds_next is_one = ap children_in (opened types at def lt is) ∙ (rw is_one refl)
+    kinds_next is_one = ap children_in (rest_at types at def lt is) ∙ (rw is_one refl)
 
   pub kinds_done : length types ≤ at → kinds_from types parent at ≡ []
   kinds_done past = ap children_in (drop_all at types past)
@@ -105,7 +105,7 @@ module _ (types : List SegDef) where
         → i < length rows → row ≡ get_or rows i row → kinds ≡ kind ∷ more → below ≡ level + 1
         → left kinds (drop i rows) ≡ row_text types kind below row ++ left more (drop (i + 1) rows)
     rows_next kind below i kinds more rows row lt is first deeper =
-        ap (λ (rs : List (List Node)). left kinds rs) (opened rows i row lt is)
+        ap (λ (rs : List (List Node)). left kinds rs) (rest_at rows i row lt is)
         ∙ ap (λ (ks : List ℕ). left ks (row ∷ drop (i + 1) rows)) first
         ∙ rows_first type level kind more row (drop (i + 1) rows)
         ∙ ap (λ (n : ℕ). row_text types kind n row ++ left more (drop (i + 1) rows)) (sym deeper)

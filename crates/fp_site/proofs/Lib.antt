@@ -3,3 +3,4 @@ pub mod Images
 pub mod Torns
 pub mod Frames
 pub mod Sendings
+pub mod Ranges

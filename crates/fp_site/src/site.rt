@@ -2,6 +2,7 @@
 ghost use Rattle.std.specs.Prelude.{◌≡◌, ◌+◌, ◌≤◌, ◌^◌, ◌++◌, ℕ, IfOk, OnErr, OnOk, length, take};
 ghost use Rattle.fp_site.specs.Disk.{Disk, written, read_range, Broken, IsDurable, Tears, Syncs, Sends, Elapses, Stays, Leaves, IsLawful};
 ghost use Rattle.fp_site.specs.Site.{ReadsNothing};
+ghost use Rattle.fp_lists.specs.Continued.{IsContinued};
 ghost use Rattle.fp_lists.specs.Faults.{Counts};
 
 /// A call that failed. It comes only where the site's count of faults rose in that call, or stands at its last
@@ -57,9 +58,7 @@ pub trait Site {
         ensures stays { told self.old → Stays (disk self.old) (disk self.new) }
         ensures reads { ReadsNothing (tells_reads self.old) (tells_reads self.new) (bytes_read self.old)
             (bytes_read self.new) }
-        ensures told { told self.old → told self.new }
-        ensures holds { holds self.new ≡ holds self.old }
-        ensures keeps { (first : Self) → keeps first self.old → keeps first self.new };
+        ensures site { IsContinued told faults holds keeps self.old self.new };
 
     /// Asks whether a data set may grow to `end` bytes. Nothing changes.
     fn reach(&mut self, set: u16, end: u64) -> Result<(), Failed>
@@ -68,9 +67,7 @@ pub trait Site {
         ensures stays { told self.old → Stays (disk self.old) (disk self.new) }
         ensures reads { ReadsNothing (tells_reads self.old) (tells_reads self.new) (bytes_read self.old)
             (bytes_read self.new) }
-        ensures told { told self.old → told self.new }
-        ensures holds { holds self.new ≡ holds self.old }
-        ensures keeps { (first : Self) → keeps first self.old → keeps first self.new };
+        ensures site { IsContinued told faults holds keeps self.old self.new };
 
     /// Fills `into` with the bytes from offset `at` on. Bytes past the end read as 0. After `Failed`, `into` may
     /// hold any bytes.
@@ -90,9 +87,7 @@ pub trait Site {
 
         // Nothing changes.
         ensures stays { told self.old → Stays (disk self.old) (disk self.new) }
-        ensures told { told self.old → told self.new }
-        ensures holds { holds self.new ≡ holds self.old }
-        ensures keeps { (first : Self) → keeps first self.old → keeps first self.new };
+        ensures site { IsContinued told faults holds keeps self.old self.new };
 
     /// Writes `from` at offset `at`, and lengthens the data set where needed, with zeros up to `at`. After `Failed`
     /// the range may hold any bytes.
@@ -108,9 +103,7 @@ pub trait Site {
         ensures leaves { told self.old → Leaves set (disk self.old) (disk self.new) }
         ensures reads { ReadsNothing (tells_reads self.old) (tells_reads self.new) (bytes_read self.old)
             (bytes_read self.new) }
-        ensures told { told self.old → told self.new }
-        ensures holds { holds self.new ≡ holds self.old }
-        ensures keeps { (first : Self) → keeps first self.old → keeps first self.new }
+        ensures site { IsContinued told faults holds keeps self.old self.new }
 
         // A crash at any moment of the call leaves of this data set an earlier image with the range torn.
         ensures crash { told self.old →
@@ -126,9 +119,7 @@ pub trait Site {
         ensures leaves { told self.old → Leaves set (disk self.old) (disk self.new) }
         ensures reads { ReadsNothing (tells_reads self.old) (tells_reads self.new) (bytes_read self.old)
             (bytes_read self.new) }
-        ensures told { told self.old → told self.new }
-        ensures holds { holds self.new ≡ holds self.old }
-        ensures keeps { (first : Self) → keeps first self.old → keeps first self.new }
+        ensures site { IsContinued told faults holds keeps self.old self.new }
 
         // A crash at any moment of the call leaves this data set alike where all earlier images were alike.
         ensures crash { told self.old → Elapses (disk self.old) (disk self.new) (Syncs (disk self.old) set) };
@@ -144,9 +135,7 @@ pub trait Site {
         ensures same { told self.old → (disk self.new).contents ≡ (disk self.old).contents }
         ensures reads { ReadsNothing (tells_reads self.old) (tells_reads self.new) (bytes_read self.old)
             (bytes_read self.new) }
-        ensures told { told self.old → told self.new }
-        ensures holds { holds self.new ≡ holds self.old }
-        ensures keeps { (first : Self) → keeps first self.old → keeps first self.new }
+        ensures site { IsContinued told faults holds keeps self.old self.new }
 
         // A crash at any moment of the call leaves a prefix of the text sent.
         ensures crash { told self.old → Elapses (disk self.old) (disk self.new) (Sends (disk self.old) text.now) };

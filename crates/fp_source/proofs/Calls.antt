@@ -1,6 +1,8 @@
 -- Runs of calls that read of one part alone.
 use Rattle.std.proofs.Common.{ℕ, ◌≡◌, ◌≤◌, ◌<◌, ◌+◌, ◌-◌, min, List, ◌++◌, length, take, refl, sym, ◌∙◌, ap, arith, append_assoc, length-append}
 use Rattle.std.proofs.lemmas.List.{length-take, length-take-le, take-take, take-append-le}
+use Rattle.fp_lists.specs.Continued.{IsContinued}
+use Rattle.fp_lists.proofs.ContinuedLemmas.{continued_both, continued_none}
 use Rattle.fp_source.specs.declared.part.Part.{Part}
 use Rattle.fp_source.specs.Source.{ReadsOnly}
 
@@ -8,12 +10,18 @@ use Rattle.fp_source.specs.Source.{ReadsOnly}
 pub reads_none : {S : Type 0} (told : S → Type 0) (left : S → Part → List ℕ) (faults holds : S → ℕ)
     (keeps : S → S → Type 0) (part : Part) (a : S)
     → ReadsOnly told left faults holds keeps part a a
-reads_none told left faults holds keeps part a = record {
-  later = omega arith;
-  others = λ t p o. refl;
-  stays_told = λ t. t;
-  same_reference = refl;
-  kept = λ first k. k;
+reads_none told left faults holds keeps part a =
+    record { continued = continued_none told faults holds keeps a; others = λ t p o. refl }
+
+-- one call more
+pub reads_on : {S : Type 0} (told : S → Type 0) (left : S → Part → List ℕ) (faults holds : S → ℕ)
+    (keeps : S → S → Type 0) (part : Part) (a b c : S)
+    → ReadsOnly told left faults holds keeps part a b → IsContinued told faults holds keeps b c
+    → (told b → (p : Part) → (p ≡ part → ⊥) → left c p ≡ left b p)
+    → ReadsOnly told left faults holds keeps part a c
+reads_on told left faults holds keeps part a b c f continued others = record {
+  continued = continued_both told faults holds keeps a b c f.continued continued;
+  others = λ t p o. others (f.continued.still_told t) p o ∙ f.others t p o;
 }
 
 -- one run after another
@@ -21,31 +29,8 @@ pub reads_joined : {S : Type 0} (told : S → Type 0) (left : S → Part → Lis
     (keeps : S → S → Type 0) (part : Part) (a b c : S)
     → ReadsOnly told left faults holds keeps part a b → ReadsOnly told left faults holds keeps part b c
     → ReadsOnly told left faults holds keeps part a c
-reads_joined told left faults holds keeps part a b c f s = record {
-  later = let x = f.later in let y = s.later in omega arith;
-  others = λ t p o. s.others (f.stays_told t) p o ∙ f.others t p o;
-  stays_told = λ t. s.stays_told (f.stays_told t);
-  same_reference = s.same_reference ∙ f.same_reference;
-  kept = λ first k. s.kept first (f.kept first k);
-}
-
--- one call more
-pub reads_on : {S : Type 0} (told : S → Type 0) (left : S → Part → List ℕ) (faults holds : S → ℕ)
-    (keeps : S → S → Type 0) (part : Part) (a b c : S)
-    → ReadsOnly told left faults holds keeps part a b → faults b ≤ faults c
-    → (told b → (p : Part) → (p ≡ part → ⊥) → left c p ≡ left b p)
-    → (told b → told c) → holds c ≡ holds b → ((first : S) → keeps first b → keeps first c)
-    → ReadsOnly told left faults holds keeps part a c
-reads_on told left faults holds keeps part a b c f later others stays_told same_reference kept =
-    reads_joined told left faults holds keeps part a b c f
-    (record {
-      later = later;
-      others = others;
-      stays_told = stays_told;
-      same_reference = same_reference;
-      kept =
-          kept;
-    })
+reads_joined told left faults holds keeps part a b c f s =
+    reads_on told left faults holds keeps part a b c f s.continued s.others
 
 -- one piece more of the part
 pub piece_more : (first taken piece now next : List ℕ) → first ≡ taken ++ now → now ≡ piece ++ next

@@ -1,6 +1,6 @@
 -- Results that are an Err of one kind, and so of no other.
 use Rattle.std.proofs.Common.{◌≡◌, ℕ, refl}
-use Rattle.std.specs.Prelude.{Result, Ok, Err, IfErr, IfOk, OnOk, IsErr, IsErrOf}
+use Rattle.std.specs.Prelude.{Result, Ok, Err, IfErr, IsErrOf}
 use Rattle.std.specs.Result.{IsErrAnd}
 use Rattle.fp_source.specs.declared.whole_part.WholeFault.{WholeFault}
 use Rattle.fp_source.specs.declared.whole_part.WholeFault.TheVariants as whole
@@ -8,15 +8,6 @@ use Rattle.fp_source.specs.declared.lines.LineFault.{LineFault}
 use Rattle.fp_source.specs.declared.lines.LineFault.TheVariants as line
 use Rattle.fp_lists.specs.Faults.{Rose}
 use Rattle.fp_source.specs.Lines.{IsCausedBy}
-
--- it says nothing of a value
-pub nothing_if : {T E : Type 0} (r : Result T E) (P : T → Type 0) → IsErr r → IfOk r P
-nothing_if (Ok x) P is = absurd cc
-nothing_if (Err y) P is = tt
-
-pub nothing_on : {T E : Type 0} (r : Result T E) (P : Type 0) → IsErr r → OnOk r P
-nothing_on (Ok x) P is = absurd cc
-nothing_on (Err y) P is = tt
 
 -- want of memory
 pub memory_not_long : {T : Type 0} (r : Result T WholeFault) → IsErrAnd r (λ e. e ≡ whole.Memory)

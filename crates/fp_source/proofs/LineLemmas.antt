@@ -11,9 +11,7 @@ use Rattle.fp_model.specs.Messages.{LineFault, LineTooLong, TooManyLines, lines_
 use Rattle.fp_source.specs.inside.Newlines.{HasNoNewline, HasLongLine}
 use Rattle.fp_source.specs.Lines.{fault_from}
 use Rattle.fp_source.proofs.Pieces.{plain_append}
-
-abbrev is_newline : ℕ → Bool
-is_newline b = b == 10
+use Rattle.model_laws.proofs.Lines.{is_newline, IsCons, split_is_cons, lines_at}
 
 newline : (b : ℕ) → b ≡ 10 → (b == 10) ≡ true
 newline b is = grind (arith, nat_tests)
@@ -21,28 +19,8 @@ newline b is = grind (arith, nat_tests)
 no_newline : (b : ℕ) → (b ≡ 10 → ⊥) → (b == 10) ≡ false
 no_newline b not = grind (arith, nat_tests)
 
--- there is always a first part
-abbrev IsCons : List (List ℕ) → Type 0
-IsCons parts = (x : List ℕ) × (more : List (List ℕ)) × (parts ≡ x ∷ more)
-
-onto_is_cons : (b : ℕ) (parts : List (List ℕ)) → IsCons (onto_first b parts)
-onto_is_cons b [] = (b ∷ [], [], refl)
-onto_is_cons b (x ∷ more) = (b ∷ x, more, refl)
-
-split_is_cons : (bytes : List ℕ) → IsCons (slice_split is_newline bytes)
-split_is_cons [] = ([], [], refl)
-split_is_cons (b ∷ bytes) = ⊎_elim
-    (λ is. rw (slice_split-cons_yes is_newline b bytes (newline b is)) ([], slice_split is_newline bytes, refl))
-    (λ not. rw (slice_split-cons_no is_newline b bytes (no_newline b not))
-    (onto_is_cons b (slice_split is_newline bytes)))
-    (cases_eq b 10)
-
 raw_at : (x : List ℕ) (parts : List (List ℕ)) → IsCons parts → but_empty_last (x ∷ parts) ≡ x ∷ but_empty_last parts
 raw_at x parts is = rw is.2 refl
-
-lines_at : (x : List ℕ) (parts : List (List ℕ)) → IsCons parts
-    → lines_of_parts (x ∷ parts) ≡ strip_carriage_return x ∷ lines_of_parts parts
-lines_at x parts is = rw is.2 refl
 
 -- a line that ends at a newline, as it stands and as it is given
 pub raw_first : (line rest : List ℕ) → HasNoNewline line → raw_lines (line ++ 10 ∷ rest) ≡ line ∷ raw_lines rest

@@ -1,10 +1,9 @@
 -- Pieces of lists: what a piece given leaves.
-use Rattle.std.proofs.Common.{ℕ, ◌≡◌, ◌+◌, ◌-◌, ◌<◌, ◌≤◌, min, Bool, true, false, List, [], ◌∷◌, ◌++◌, length, take, drop, refl, sym, ◌∙◌, ap, inl, inr, ⊎_elim, arith, append_assoc, length-append, length-take}
+use Rattle.std.proofs.Common.{ℕ, ◌≡◌, ◌+◌, ◌-◌, ◌<◌, ◌≤◌, min, Bool, true, false, List, [], ◌∷◌, ◌++◌, length, take, drop, refl, sym, ◌∙◌, ap, arith, append_assoc, length-append, length-take}
 use Rattle.std.proofs.lemmas.List.{append-nil, drop-drop, take-append-drop, take_at, drop-take, length-take-le}
 use Rattle.std.proofs.lemmas.List.Elements.{All-append}
 use Rattle.std.specs.Prelude.{◌==◌, if◌then◌else◌}
 use mir.Val.{bool_byte}
-use Rattle.fp_lists.specs.Faults.{Rose}
 use Rattle.fp_source.specs.inside.Newlines.{HasNoNewline, IsFirstPart, HasLongLine, after_part}
 
 -- a piece that was copied from the front of what is left, and what is left behind it
@@ -37,10 +36,6 @@ window_empty block at end le =
 -- no newline in either
 pub plain_append : (a b : List ℕ) → HasNoNewline a → HasNoNewline b → HasNoNewline (a ++ b)
 plain_append a b p q = All-append (λ x. (x == 10) ≡ false) a b p q
-
--- the count rose since an earlier moment too
-pub rose_since : (a b c : ℕ) → a ≤ b → Rose b c → Rose a c
-rose_since a b c le r = ⊎_elim (λ lt. inl (omega arith)) (λ e. inr e) r
 
 -- how far a first part reaches
 part_reaches : (part whole rest : List ℕ) (by_newline : Bool) → IsFirstPart part by_newline whole rest

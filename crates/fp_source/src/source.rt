@@ -1,5 +1,6 @@
 //! What the program reads: four parts, each given piece by piece.
 ghost use Rattle.std.specs.Prelude.{◌≡◌, ◌<◌, ◌≤◌, ◌++◌, ℕ, List, [], IfOk, OnErr, length, take};
+ghost use Rattle.fp_lists.specs.Continued.{IsContinued};
 ghost use Rattle.fp_lists.specs.Faults.{Counts};
 ghost use Rattle.fp_source.specs.declared.part.Part.{Part};
 
@@ -45,9 +46,7 @@ pub trait Source {
 
         // The other parts stay.
         ensures others { told self.old → (p : Part) → (p ≡ part → ⊥) → left self.new p ≡ left self.old p }
-        ensures told { told self.old → told self.new }
-        ensures holds { holds self.new ≡ holds self.old }
-        ensures keeps { (first : Self) → keeps first self.old → keeps first self.new };
+        ensures source { IsContinued told faults holds keeps self.old self.new };
 
     /// A source keeps what is known of it, seen from itself,
     ghost keeps_itself: { (source : Self) → keeps source source };

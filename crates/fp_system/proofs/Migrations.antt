@@ -18,7 +18,6 @@ use Rattle.fp_model.specs.Rules.{Rules}
 use Rattle.fp_model.specs.SerialHistory.{Comes, LeadsOn}
 use Rattle.fp_model.specs.State.{start}
 use Rattle.fp_model.proofs.HistoryLemmas.{entries_put, format_stays}
-use Rattle.fp_restart.proofs.Fits.{entries-more, items-append}
 use Rattle.fp_restart.proofs.Groups.{same_reading}
 use Rattle.fp_restart.proofs.Replays.{read_at_rest}
 use Rattle.fp_restart.specs.Replayed.{ReadsBack}
@@ -41,6 +40,7 @@ use Rattle.fp_system.specs.Table.{IsOld, IsSpared}
 use Rattle.fp_system.specs.declared.status.Status.{Status}
 use Rattle.fp_system.specs.declared.status.Status.TheVariants.{Done}
 use Rattle.fp_system.proofs.Went.{unchanged_same}
+use Rattle.model_laws.proofs.Entries.{entries_push, items-append}
 
 -- ---- a log with one entry more
 
@@ -102,7 +102,7 @@ module _ (defs : Defs) (scripts : List Script) (front : Front) (log : List ℕ) 
         gate = gate;
         holds = log.holds;
         stands = log.stands;
-        all = ap (λ (es : List Entry). es ++ e ∷ []) all ∙ sym (entries-more groups (e ∷ []));
+        all = ap (λ (es : List Entry). es ++ e ∷ []) all ∙ sym (entries_push groups (e ∷ []));
         last = sound.last;
         history = record {
           history = with_entry e h.now h;

@@ -18,6 +18,7 @@ use Rattle.schedule_runs.specs.Ways.{Comes, Goes, here, turn, again}
 use Rattle.sealed_runs.specs.Behind.{IsBehind}
 use Rattle.fp_system.specs.Courses.{IsHistoryOf}
 use Rattle.fp_system.specs.Parts.{Job, rules_for}
+use Rattle.plain_laws.proofs.Lists.{drop_more, drop_nil}
 
 -- ---- the run
 
@@ -56,17 +57,6 @@ comes_behind job format earlier h lines events left m is comes =
 
 abbrev IsRest : Machine → Machine → Type 0
 IsRest m m2 = (k : ℕ) × (m2.lines ≡ drop k m.lines)
-
-drop_nil : {X : Type 0} (k : ℕ) → drop {A = X} k [] ≡ []
-drop_nil zero = refl
-drop_nil (suc k) = refl
-
-drop_more : {X : Type 0} (n k : ℕ) (xs : List X) → drop k (drop n xs) ≡ drop (n + k) xs
-drop_more zero k xs = let e : 0 + k ≡ k = omega arith in ap (λ (j : ℕ). drop j xs) (sym e)
-drop_more (suc n) k [] = drop_nil k ∙ sym (drop_nil (suc n + k))
-drop_more (suc n) k (x ∷ xs) =
-    let e : suc n + k ≡ suc (n + k) = omega arith in
-    drop_more n k xs ∙ ap (λ (j : ℕ). drop j (x ∷ xs)) (sym e)
 
 -- what is left of a list is told by how much there is
 pub drop_least : {X : Type 0} (k n : ℕ) (xs : List X) → n + length (drop k xs) ≡ length xs → drop k xs ≡ drop n xs

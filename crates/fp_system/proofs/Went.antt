@@ -28,7 +28,6 @@ use Rattle.msdb_store.specs.Store.{Stored}
 use Rattle.schedule_runs.specs.Standing.{IsLeftOnWay}
 use Rattle.schedule_runs.specs.Ways as way
 use Rattle.schedule_runs.specs.Ways.{Comes, next_event}
-use Rattle.sealed_runs.proofs.Parts.{entries_both}
 use Rattle.sealed_runs.proofs.SoundLogs.{groups_sound}
 use Rattle.fp_system.specs.Courses.{Course, GoesOnTo, Input, IsHistoryOf, IsKeptBy, IsSoundFor, Point, with_seals}
 use Rattle.fp_system.specs.inside.Courses.{IsBegun, RanFrom}
@@ -38,6 +37,7 @@ use Rattle.fp_system.specs.Ims.{IsUnchanged}
 use Rattle.fp_system.specs.Parts.{Job, front_in, rules_for}
 use Rattle.fp_system.specs.declared.status.Status.{Status}
 use Rattle.fp_system.proofs.Ways.{comes_behind}
+use Rattle.model_laws.proofs.Entries.{entries-append}
 
 -- ---- the history of a sound log
 
@@ -121,7 +121,7 @@ module _ (job : Job) (format : ℕ) (given : Input) (earlier : List Entry) (are 
               groups = has.log;
               sound =
                   subst (IsSoundFor job format log)
-                  (ap (λ (es : List Entry). es ++ entries_of more) all ∙ sym (entries_both groups more))
+                  (ap (λ (es : List Entry). es ++ entries_of more) all ∙ sym (entries-append groups more))
                   (groups_sound job.defs job.scripts origin (h.contents 0) earlier point.here
                   (seals_of (next_event point.left) point.here) point.text log are none safe.now
                   (comes_behind job format earlier before given.lines given.events point.left point.here its_history

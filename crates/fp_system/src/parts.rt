@@ -1,6 +1,7 @@
 //! The parts of the source: the definitions, then the scripts, and of a run then the schedule.
 ghost use Rattle.fp_core.specs.Standing.{IsEventOf};
 ghost use Rattle.fp_exits.specs.Kinds.{has_kind, kinds_of};
+ghost use Rattle.fp_lists.specs.Continued.{IsContinued};
 ghost use Rattle.fp_model.specs.WellFormed.{AreDefs};
 ghost use Rattle.fp_source.specs.Source.{ReadsOnly};
 ghost use Rattle.fp_source.specs.declared.part.Part.TheVariants as part;
@@ -17,7 +18,7 @@ ghost use Rattle.fp_source.specs.declared.part.Part.{Part as PartOf};
 ghost use Rattle.std.specs.List.{AllByRecursion};
 ghost use Rattle.fp_system.specs.declared.status.Status.{Status as StatusOf};
 ghost use Rattle.fp_system.specs.declared.status.Status.TheVariants as status;
-ghost use Rattle.std.specs.Prelude.{◌≡◌, ◌⊎◌, ◌≤◌, [], Err, IfErr, IfOk, IsErrOf, Ok, OnOk, true};
+ghost use Rattle.std.specs.Prelude.{◌≡◌, ◌⊎◌, [], Err, IfErr, IfOk, IsErrOf, Ok, OnOk, true};
 ghost use Rattle.txn_lang.specs.Grammar.{AreScriptsOf, HasFault};
 ghost use Rattle.txn_lang.specs.declared.fault.ScriptFault.{ScriptFault as ScriptFaultOf};
 
@@ -217,10 +218,7 @@ fn read_setup<S: Source>(alloc: Global, source: &mut S, exits: &Exits) -> Result
         → S.left source.new part.Scripts ≡ S.left source.old part.Scripts }
     ensures others { S.told source.old → (p : PartOf) → ¬ (p ≡ part.Definitions) → ¬ (p ≡ part.Scripts)
         → S.left source.new p ≡ S.left source.old p }
-    ensures later { S.faults source.old ≤ S.faults source.new }
-    ensures told { S.told source.old → S.told source.new }
-    ensures holds { S.holds source.new ≡ S.holds source.old }
-    ensures keeps { (first : S) → S.keeps first source.old → S.keeps first source.new }
+    ensures source { IsContinued S.told S.faults S.holds S.keeps source.old source.new }
 {
     let defs = read_definitions(alloc, source, exits)?;
     let scripts = read_scripts(alloc, source, &defs)?;
@@ -328,10 +326,7 @@ pub(crate) fn read_task<S: Source>(
     ensures messages { S.told source.old → S.left source.new part.Messages ≡ S.left source.old part.Messages }
     ensures schedule_unread { S.told source.old → (command ≡ commands.Run → ⊥)
         → S.left source.new part.Schedule ≡ S.left source.old part.Schedule }
-    ensures later { S.faults source.old ≤ S.faults source.new }
-    ensures told { S.told source.old → S.told source.new }
-    ensures holds { S.holds source.new ≡ S.holds source.old }
-    ensures keeps { (first : S) → S.keeps first source.old → S.keeps first source.new }
+    ensures source { IsContinued S.told S.faults S.holds S.keeps source.old source.new }
 {
     let setup = read_setup(alloc, source, exits)?;
     let events = read_rest(alloc, source, command, &setup)?;

@@ -1,5 +1,5 @@
 //! The top call.
-ghost use Rattle.fp_core.specs.Standing.{IsContinued};
+ghost use Rattle.fp_lists.specs.Continued.{IsContinued};
 ghost use Rattle.fp_exits.specs.Kinds.{kinds_of};
 ghost use Rattle.fp_model.specs.Messages.{lines_of};
 ghost use Rattle.fp_model.specs.declared.events.Event.{Event};

@@ -272,7 +272,7 @@ fn settle(store: &mut MsdbStore, deferred: &List<Deferred>) -> Result<(), Fault>
 }
 
 // A seat for each region, in which nobody sits.
-#[tactic(auto, using(crate::proofs::Seats::all_push))]
+#[tactic(auto, using(plain_laws::proofs::Alls::all_pushed))]
 fn idle_seats(alloc: Global) -> Result<List<Seat>, AllocError>
     ensures count { IfOk result (λ seats. length seats ≡ 64) }
     ensures idle { IfOk result (AllByRecursion (λ one. one ≡ Seat.Idle)) }

@@ -1,5 +1,5 @@
 -- The gate at the head of a data set is closed: what a crash leaves of each call.
-use Rattle.std.proofs.Common.{◌≡◌, ◌⊎◌, inl, inr, ⊎_elim, ℕ, zero, suc, ◌<◌, ◌≤◌, false, List, [], ◌∷◌, length, get_or, drop, refl, sym, ◌∙◌, ap, subst, arith}
+use Rattle.std.proofs.Common.{◌≡◌, ◌⊎◌, inl, inr, ⊎_elim, ℕ, zero, suc, ◌+◌, ◌<◌, ◌≤◌, false, List, [], ◌∷◌, length, get_or, drop, refl, sym, ◌∙◌, ap, subst, arith}
 use Rattle.std.specs.Prelude.{slice_index}
 use Rattle.std.proofs.lemmas.Bool.Decides.{nat_tests}
 use Rattle.std.proofs.lemmas.Bool.{cases_eq}
@@ -9,7 +9,8 @@ use Rattle.fp_site.specs.Moments.{Through, OnlyOn}
 use Rattle.fp_site.proofs.Images.{torn_from, durable_stays, settles_left, settles_contents, settles_synced, settles_stays, settles_torn}
 use Rattle.fp_site.proofs.Runs.{started, goes_on, stays_on}
 use Rattle.fp_site.proofs.Frames.{only_none, only_more, only_stays}
-use Rattle.gated_write.specs.Gates.{IsClosed, IsShut, IsOldOrShut}
+use Rattle.fp_site.specs.Site.{ReadsNothing}
+use Rattle.gated_write.specs.Gates.{ReadsOnly, IsClosed, IsShut, IsOldOrShut}
 use Rattle.gated_write.proofs.Bodies.{written_is}
 
 -- the gate is absent, or open
@@ -119,3 +120,32 @@ shut_now set old new durable is =
 pub rest_now : (set : ℕ) (old : List ℕ) (new : Disk) → new.contents set ≡ written old 0 (0 ∷ [])
     → drop 1 (new.contents set) ≡ drop 1 old
 rest_now set old new is = ap (drop 1) (is ∙ written_is old 0 (0 ∷ []) (omega arith))
+
+-- ---- what is read, by what is told and by the numbers
+
+-- no data set, and then this one alone; no more than so much of it
+module _ (set : ℕ) (told told1 told2 : ℕ → Type 0) (read read1 read2 : ℕ → ℕ)
+    (first : ReadsNothing told told1 read read1) where
+  pub then_reads : ReadsOnly set told1 told2 read1 read2 → ReadsOnly set told told2 read read2
+  then_reads only k t =
+      let second = only k t in
+      let before = first k second.0 in
+      (before.0, λ other. second.1 other ∙ before.1)
+
+  pub then_few : (count : ℕ) → ReadsOnly set told1 told2 read1 read2 → (told2 set → read2 set ≤ read1 set + count)
+      → told2 set → read2 set ≤ read set + count
+  then_few count only few t = omega (arith, few t, (first set (only set t).0).1)
+
+-- this one alone, and then no data set
+pub reads_then : (set : ℕ) (told told1 told2 : ℕ → Type 0) (read read1 read2 : ℕ → ℕ)
+    → ReadsNothing told1 told2 read1 read2 → ReadsOnly set told told1 read read1 → ReadsOnly set told told2 read read2
+reads_then set told told1 told2 read read1 read2 second only k t =
+    let after = second k t in
+    let before = only k after.0 in
+    (before.0, λ other. after.1 ∙ before.1 other)
+
+pub few_then : (set : ℕ) (told1 told2 : ℕ → Type 0) (read1 read2 : ℕ → ℕ) → ReadsNothing told1 told2 read1 read2
+    → (most : ℕ) → (told1 set → read1 set ≤ most) → told2 set → read2 set ≤ most
+few_then set told1 told2 read1 read2 second most few t =
+    let after = second set t in
+    omega (arith, after.1, few after.0)

@@ -2,6 +2,7 @@
 ghost use Rattle.fp_site.specs.Disk.{Disk, IsDurable, Settles, written};
 ghost use Rattle.fp_site.specs.Moments.{OnlyOn, Through};
 ghost use Rattle.fp_site.specs.Site.{ReadsNothing};
+ghost use Rattle.fp_lists.specs.Continued.{IsContinued};
 ghost use Rattle.fp_lists.specs.Faults.{Counts};
 ghost use Rattle.gated_write.specs.Gates.{AreFronts, AreUnopened, IsFrontOf, IsGatedImage, IsOpened, IsReady, IsUnopened, IsWriting, with_body};
 ghost use Rattle.std.specs.Prelude.{◌≡◌, ◌⊎◌, ◌+◌, ◌-◌, ◌<◌, ◌≤◌, ◌^◌, ◌∷◌, ◌++◌, ℕ, List as ListOf, OnOk, length};
@@ -25,9 +26,7 @@ pub fn put<S: Site>(site: &mut S, set: u16, at: u64, piece: &[u8]) -> Result<(),
     ensures only { S.told site.old → OnlyOn set (S.disk site.old) (S.disk site.new) }
     ensures reads { ReadsNothing (S.tells_reads site.old) (S.tells_reads site.new) (S.bytes_read site.old)
         (S.bytes_read site.new) }
-    ensures told { S.told site.old → S.told site.new }
-    ensures holds { S.holds site.new ≡ S.holds site.old }
-    ensures keeps { (first : S) → S.keeps first site.old → S.keeps first site.new }
+    ensures site { IsContinued S.told S.faults S.holds S.keeps site.old site.new }
 
     // A crash at any moment leaves what stands up to the gate, and so does a further sync of what it may leave.
     ensures crash { (old : ListOf ℕ) (gate : ℕ) → S.told site.old → AreUnopened old gate set (S.disk site.old)
@@ -59,9 +58,7 @@ pub fn finish<S: Site>(site: &mut S, set: u16) -> Result<(), Failed>
     ensures only { S.told site.old → OnlyOn set (S.disk site.old) (S.disk site.new) }
     ensures reads { ReadsNothing (S.tells_reads site.old) (S.tells_reads site.new) (S.bytes_read site.old)
         (S.bytes_read site.new) }
-    ensures told { S.told site.old → S.told site.new }
-    ensures holds { S.holds site.new ≡ S.holds site.old }
-    ensures keeps { (first : S) → S.keeps first site.old → S.keeps first site.new }
+    ensures site { IsContinued S.told S.faults S.holds S.keeps site.old site.new }
 
     // A crash at any moment leaves what stands up to the gate, and so does a further sync of what it may leave.
     ensures crash { (old : ListOf ℕ) (gate : ℕ) → S.told site.old → AreUnopened old gate set (S.disk site.old) →
@@ -96,9 +93,7 @@ pub fn write<S: Site>(site: &mut S, set: u16, gate: u64, body: &[u8]) -> Result<
     ensures only { S.told site.old → OnlyOn set (S.disk site.old) (S.disk site.new) }
     ensures reads { ReadsNothing (S.tells_reads site.old) (S.tells_reads site.new) (S.bytes_read site.old)
         (S.bytes_read site.new) }
-    ensures told { S.told site.old → S.told site.new }
-    ensures holds { S.holds site.new ≡ S.holds site.old }
-    ensures keeps { (first : S) → S.keeps first site.old → S.keeps first site.new }
+    ensures site { IsContinued S.told S.faults S.holds S.keeps site.old site.new }
 
     // A crash at any moment leaves the gate as it was, or the bytes whole behind it.
     ensures crash { S.told site.old → IsDurable (S.disk site.old) set

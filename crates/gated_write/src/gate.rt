@@ -2,6 +2,7 @@
 ghost use Rattle.fp_site.specs.Disk.{Disk, IsDurable, Settles, Stays, written};
 ghost use Rattle.fp_site.specs.Moments.{OnlyOn, Through};
 ghost use Rattle.fp_site.specs.Site.{ReadsNothing};
+ghost use Rattle.fp_lists.specs.Continued.{IsContinued};
 ghost use Rattle.fp_lists.specs.Faults.{Counts};
 ghost use Rattle.gated_write.specs.Gates.{AreFronts, IsClosed, IsFrontOf, IsOldOrShut, IsOpened, IsReady, IsShut, IsStaged, ReadsOnly};
 ghost use Rattle.std.specs.Prelude.{◌≡◌, ◌⊎◌, ◌+◌, ◌-◌, ◌<◌, ◌≤◌, ◌^◌, ◌∷◌, [], ℕ, IfOk, List as ListOf, OnOk, drop, length, slice_index, true, false};
@@ -21,9 +22,7 @@ fn is_shut<S: Site>(site: &mut S, set: u16) -> Result<bool, Failed>
     ensures reads { ReadsOnly set (S.tells_reads site.old) (S.tells_reads site.new) (S.bytes_read site.old)
         (S.bytes_read site.new) }
     ensures few { S.tells_reads site.new set → S.bytes_read site.new set ≤ S.bytes_read site.old set + 1 }
-    ensures told { S.told site.old → S.told site.new }
-    ensures holds { S.holds site.new ≡ S.holds site.old }
-    ensures keeps { (first : S) → S.keeps first site.old → S.keeps first site.new }
+    ensures site { IsContinued S.told S.faults S.holds S.keeps site.old site.new }
 {
     if site.size(set)? == 0 {
         return Ok(false);
@@ -45,9 +44,7 @@ pub fn shut<S: Site>(site: &mut S, set: u16) -> Result<(), Failed>
     ensures reads { ReadsOnly set (S.tells_reads site.old) (S.tells_reads site.new) (S.bytes_read site.old)
         (S.bytes_read site.new) }
     ensures few { S.tells_reads site.new set → S.bytes_read site.new set ≤ S.bytes_read site.old set + 1 }
-    ensures told { S.told site.old → S.told site.new }
-    ensures holds { S.holds site.new ≡ S.holds site.old }
-    ensures keeps { (first : S) → S.keeps first site.old → S.keeps first site.new }
+    ensures site { IsContinued S.told S.faults S.holds S.keeps site.old site.new }
 
     // A crash at any moment leaves the data set as a sync might have left it before, or shut.
     ensures crash { S.told site.old → Through (S.disk site.old) (S.disk site.new)
@@ -82,9 +79,7 @@ pub fn open<S: Site>(site: &mut S, set: u16, gate: u64) -> Result<(), Failed>
     ensures only { S.told site.old → OnlyOn set (S.disk site.old) (S.disk site.new) }
     ensures reads { ReadsNothing (S.tells_reads site.old) (S.tells_reads site.new) (S.bytes_read site.old)
         (S.bytes_read site.new) }
-    ensures told { S.told site.old → S.told site.new }
-    ensures holds { S.holds site.new ≡ S.holds site.old }
-    ensures keeps { (first : S) → S.keeps first site.old → S.keeps first site.new }
+    ensures site { IsContinued S.told S.faults S.holds S.keeps site.old site.new }
 
     // A crash at any moment leaves the body whole behind the gate, and so does a further sync.
     ensures crash { (old body : ListOf ℕ) → S.told site.old → IsReady old gate body set (S.disk site.old) →

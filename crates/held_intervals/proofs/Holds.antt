@@ -1,9 +1,8 @@
 -- An interval of those that are held.
-use Rattle.std.proofs.Common.{inl, inr, length, ◌+◌, [], ◌∷◌, set, ◌++◌, ◌≡◌, ℕ, zero, suc, ◌<◌, ◌≤◌, List, get_or, refl, sym, ◌∙◌, ap, subst, arith, Bool, true, false}
+use Rattle.std.proofs.Common.{inl, inr, length, ◌+◌, [], ◌∷◌, set, ◌++◌, ◌≡◌, ℕ, zero, suc, ◌<◌, ◌≤◌, List, get_or, refl, sym, ◌∙◌, ap, subst, arith}
 use Rattle.std.specs.Prelude.{Some, None, Option, Result, Ok, Err, IfOk, IsOk, OnOk, OnErr, IfSome, slice_get}
 use Rattle.std.specs.BTreeMap.{BTreeMap, get, IsUnchanged}
 use Rattle.std.specs.Ordering.{nat_cmp}
-use Rattle.std.specs.Map.{lookup}
 use Rattle.std.proofs.lemmas.Bool.{cases_eq}
 use Rattle.ci_space.specs.Interval.{IsInterval, empty_bytes}
 use Rattle.ci_space.specs.Calls.{GoesOn, HaveSize}
@@ -54,12 +53,12 @@ listed_same (suc n) f g same =
     cc
 
 -- one that is longer by one,
-listed_more : (n : ℕ) (f : ℕ → List ℕ) → listed (suc n) f ≡ listed n f ++ f n ∷ []
+pub listed_more : (n : ℕ) (f : ℕ → List ℕ) → listed (suc n) f ≡ listed n f ++ f n ∷ []
 listed_more zero f = refl
 listed_more (suc n) f = ap (λ l. f 0 ∷ l) (listed_more n (λ i. f (suc i)))
 
 -- and one with another value
-listed_set : (n : ℕ) (f g : ℕ → List ℕ) (i : ℕ) (x : List ℕ) → g i ≡ x → ((k : ℕ) → (k ≡ i → ⊥) → g k ≡ f k)
+pub listed_set : (n : ℕ) (f g : ℕ → List ℕ) (i : ℕ) (x : List ℕ) → g i ≡ x → ((k : ℕ) → (k ≡ i → ⊥) → g k ≡ f k)
     → listed n g ≡ set (listed n f) i x
 listed_set zero f g i x here other = refl
 listed_set (suc n) f g zero x here other =
@@ -280,15 +279,6 @@ goes_itself told size faults keeps now = record {
 
 -- ---- changes that are put
 
-pub goes_joined : {I : Type 0} (told : I → Type 0) (size faults : I → ℕ) (keeps : I → I → Type 0) (a b c : I)
-    → GoesOn told size faults keeps a b → GoesOn told size faults keeps b c → GoesOn told size faults keeps a c
-goes_joined told size faults keeps a b c g h = record {
-  tells = λ t. h.tells (g.tells t);
-  same_size = h.same_size ∙ g.same_size;
-  later = let x = g.later in let y = h.later in omega (arith, x, y);
-  known = λ x k. h.known x (g.known x k);
-}
-
 pub fit_same : (number size next_number next_size : ℕ) (changed : Changes) → next_number ≡ number → next_size ≡ size
     → Fit number size changed → Fit next_number next_size changed
 fit_same number size next_number next_size changed e f h = rw (e, f) h
@@ -366,12 +356,6 @@ pub front_extended : {E : Type 0} (r : Result ℕ E) (old new : List (List ℕ))
     → OnOk r (new ≡ old ++ bytes ∷ []) → OnErr r (new ≡ old) → KeepsFront old new
 front_extended (Ok x) old new bytes e f = front_pushed old new bytes e
 front_extended (Err x) old new bytes e f = front_same old new f
-
--- a map without entries has nothing at any key
-pub no_entries : {X : Type 0} (test : ℕ → Bool) (es : List (ℕ × X)) → (0 < length es → false ≡ true)
-    → lookup test es ≡ None
-no_entries test [] none = refl
-no_entries test (e ∷ es) none = let both = none (omega arith) in absurd (cc)
 
 -- ---- a call that holds intervals, from its beginning to its end
 

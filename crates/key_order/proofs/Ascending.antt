@@ -1,37 +1,27 @@
 -- Elements with ascending keys: where a key stands among them, and what that says of searches and edits.
-use Rattle.std.proofs.Common.{Ordering, Less, Equal, Greater, ◌≡◌, ℕ, zero, suc, ◌<◌, ◌≤◌, ◌-◌, List, [], ◌∷◌, ◌++◌, map, length, take, drop, Some, None, refl, sym, ◌∙◌, ap, subst, Bool, true, false, ◌&&◌, slice_get, slice_set, slice_index_or, Option, arith}
+use Rattle.std.proofs.Common.{Ordering, Less, Equal, Greater, ◌≡◌, ℕ, zero, suc, ◌<◌, ◌≤◌, ◌-◌, List, [], ◌∷◌, ◌++◌, map, length, take, Some, None, refl, sym, ◌∙◌, ap, subst, Bool, true, false, slice_get, slice_set, slice_index_or, Option, arith}
 use Rattle.std.specs.Prelude.{find, if◌then◌else◌}
 use Rattle.std.specs.List.{AllByRecursion, insert, remove}
 use Rattle.std.specs.List.Sorted.{IsPartitionedBy}
-use Rattle.std.specs.Ordering.{nat_cmp, is_lt, ordering_reverse}
+use Rattle.std.specs.Ordering.{nat_cmp, is_lt}
 use Rattle.std.specs.Cmp.Lexicographic.{slice_cmp}
 use Rattle.std.proofs.lemmas.Cmp.{nat_list_cmp_total, tied_itself}
 use Rattle.std.proofs.lemmas.Map.Lookups.{exact_bytes}
-use Rattle.std.proofs.lemmas.Slice.Eq.{bytes_eq-Decides}
 use Rattle.fp_model.specs.State.{is_below, ascend, change_key, put_by_key, drop_key}
 use Rattle.fp_model.specs.Texts.{same_text}
 use Rattle.key_order.specs.Places.{IsPlace, if_same}
+use Rattle.plain_laws.proofs.Lists.{drop_nil, take_nil}
+use Rattle.plain_laws.proofs.Truths.{first_of_both, second_of_both}
+use Rattle.model_laws.proofs.Texts.{same_text_is, text_is_same}
+use Rattle.plain_laws.proofs.Orderings.{neither_less}
+use Rattle.std.proofs.lemmas.Option.{none-some, same_Some}
 
 -- ---- tests
 
 pub not_both : true ≡ false → ⊥
 not_both e = cc
 
-pub first_of : (a b : Bool) → (a && b) ≡ true → a ≡ true
-first_of true b e = refl
-first_of false b e = e
-
-pub second_of : (a b : Bool) → (a && b) ≡ true → b ≡ true
-second_of true b e = e
-second_of false b e = absurd (not_both (sym e))
-
 -- ---- keys
-
-pub same_is : (a b : List ℕ) → same_text a b ≡ true → a ≡ b
-same_is a b e = (bytes_eq-Decides a b).0 e
-
-pub is_same : (a : List ℕ) → same_text a a ≡ true
-is_same a = (bytes_eq-Decides a a).1 refl
 
 lt_less : (o : Ordering) → is_lt o ≡ true → o ≡ Less
 lt_less Less e = refl
@@ -49,24 +39,16 @@ pub below_differs : (a b : List ℕ) → is_below a b ≡ true → same_text a b
 below_differs a b less = by (same_text a b) refl
   where
     by : (t : Bool) → same_text a b ≡ t → t ≡ false
-    by true e = absurd (not_both (sym less ∙ ap (λ k. is_below k b) (same_is a b e) ∙ not_below_itself b))
+    by true e = absurd (not_both (sym less ∙ ap (λ k. is_below k b) (same_text_is a b e) ∙ not_below_itself b))
     by false e = refl
-
--- two of which the first isn't below the second
-neither : (o r : Ordering) → o ≡ ordering_reverse r → is_lt o ≡ false → is_lt r ≡ false → o ≡ Equal
-neither Less r is a b = absurd (not_both a)
-neither Equal r is a b = refl
-neither Greater Less is a b = absurd (not_both b)
-neither Greater Equal is a b = is
-neither Greater Greater is a b = cc
 
 pub same_or_above : (a b : List ℕ) → is_below a b ≡ false → same_text a b ≡ false → is_below b a ≡ true
 same_or_above a b below same = by (is_below b a) refl
   where
     by : (t : Bool) → is_below b a ≡ t → t ≡ true
     by true e = refl
-    by false e = absurd (not_both (sym (is_same b) ∙ ap (λ k. same_text k b)
-        (sym (exact_bytes a b (neither (slice_cmp nat_cmp a b) (slice_cmp nat_cmp b a) (nat_list_cmp_total.antisymm a b)
+    by false e = absurd (not_both (sym (text_is_same b) ∙ ap (λ k. same_text k b)
+        (sym (exact_bytes a b (neither_less (slice_cmp nat_cmp a b) (slice_cmp nat_cmp b a) (nat_list_cmp_total.antisymm a b)
         below e))) ∙ same))
 
 -- what is below is not above
@@ -81,22 +63,8 @@ pub differs_back : (a b : List ℕ) → same_text a b ≡ false → same_text b 
 differs_back a b e = by (same_text b a) refl
   where
     by : (t : Bool) → same_text b a ≡ t → t ≡ false
-    by true f = absurd (not_both (sym (is_same b) ∙ ap (λ k. same_text k b) (same_is b a f) ∙ e))
+    by true f = absurd (not_both (sym (text_is_same b) ∙ ap (λ k. same_text k b) (same_text_is b a f) ∙ e))
     by false f = refl
-
-pub some_is : {A : Type 0} (x y : A) → Some x ≡ Some y → x ≡ y
-some_is x y e = cc
-
-pub none_is_not_some : {A : Type 0} (x : A) → None ≡ Some x → ⊥
-none_is_not_some x e = cc
-
-take_nothing : {A : Type 0} (n : ℕ) → take {A = A} n [] ≡ []
-take_nothing zero = refl
-take_nothing (suc n) = refl
-
-drop_nothing : {A : Type 0} (n : ℕ) → drop {A = A} n [] ≡ []
-drop_nothing zero = refl
-drop_nothing (suc n) = refl
 
 -- ---- elements
 
@@ -115,8 +83,8 @@ module _ {X : Type 0} (key : X → List ℕ) where
       → AllByRecursion (λ y. is_below (key x) (key y) ≡ true) xs
   all_above x [] up = tt
   all_above x (y ∷ ys) up =
-      let first = first_of (is_below (key x) (key y)) (ascend (map key (y ∷ ys))) up in
-      let later = all_above y ys (second_of (is_below (key x) (key y)) (ascend (map key (y ∷ ys))) up) in
+      let first = first_of_both (is_below (key x) (key y)) (ascend (map key (y ∷ ys))) up in
+      let later = all_above y ys (second_of_both (is_below (key x) (key y)) (ascend (map key (y ∷ ys))) up) in
       (first, above ys later first)
     where
       above : (zs : List X) → AllByRecursion (λ z. is_below (key y) (key z) ≡ true) zs → is_below (key x) (key y) ≡ true
@@ -126,7 +94,7 @@ module _ {X : Type 0} (key : X → List ℕ) where
 
   pub tail_ascends : (x : X) (xs : List X) → IsAscending (x ∷ xs) → IsAscending xs
   tail_ascends x [] up = refl
-  tail_ascends x (y ∷ ys) up = second_of (is_below (key x) (key y)) (ascend (map key (y ∷ ys))) up
+  tail_ascends x (y ∷ ys) up = second_of_both (is_below (key x) (key y)) (ascend (map key (y ∷ ys))) up
 
   -- those below a key come before the others
   pub partitioned : (k : List ℕ) (xs : List X) → IsAscending xs → IsPartitionedBy (λ x. is_below (key x) k) xs
@@ -155,12 +123,12 @@ module _ {X : Type 0} (key : X → List ℕ) where
       by i d false e low high = refl
 
   at_is : (xs : List X) (n : ℕ) (d x : X) → slice_get xs n ≡ Some x → slice_index_or xs n d ≡ x
-  at_is [] n d x e = absurd (none_is_not_some x e)
-  at_is (y ∷ ys) zero d x e = some_is y x e
+  at_is [] n d x e = absurd (none-some x e)
+  at_is (y ∷ ys) zero d x e = same_Some y x e
   at_is (y ∷ ys) (suc n) d x e = at_is ys n d x e
 
   pub at_within : (xs : List X) (n : ℕ) (x : X) → slice_get xs n ≡ Some x → n < length xs
-  at_within [] n x e = absurd (none_is_not_some x e)
+  at_within [] n x e = absurd (none-some x e)
   at_within (y ∷ ys) zero x e = omega (arith)
   at_within (y ∷ ys) (suc n) x e = omega (arith, at_within ys n x e)
 
@@ -177,7 +145,7 @@ module _ {X : Type 0} (key : X → List ℕ) where
   below_before k xs (suc m) x d up at e some =
       let same : suc m - 1 ≡ m = omega (arith) in
       rw same (subst (λ y. is_below (key (slice_index_or xs m d)) y ≡ true)
-      (ap key (at_is xs (suc m) d x at) ∙ same_is (key x) k e) (below_later xs m d up (at_within xs (suc m) x at)))
+      (ap key (at_is xs (suc m) d x at) ∙ same_text_is (key x) k e) (below_later xs m d up (at_within xs (suc m) x at)))
 
   -- where the element of a key stands is the key's place
   pub place_of_same : (k : List ℕ) (xs : List X) (n : ℕ) (x : X) → IsAscending xs → slice_get xs n ≡ Some x
@@ -185,7 +153,7 @@ module _ {X : Type 0} (key : X → List ℕ) where
   place_of_same k xs n x up at e =
       let within : n < length xs = at_within xs n x at in
       place_between k xs n up (λ d some. below_before k xs n x d up at e some)
-      (λ d some. subst (λ y. is_below y k ≡ false) (sym (ap key (at_is xs n d x at) ∙ same_is (key x) k e))
+      (λ d some. subst (λ y. is_below y k ≡ false) (sym (ap key (at_is xs n d x at) ∙ same_text_is (key x) k e))
       (not_below_itself k)) (omega (arith, within))
 
   pub place_behind : (k : List ℕ) (x : X) (xs : List X) (n : ℕ) → IsPlace key k (x ∷ xs) (suc n) → IsPlace key k xs n
@@ -202,7 +170,7 @@ module _ {X : Type 0} (key : X → List ℕ) where
     where
       by : (t : Bool) → same_text (key y) k ≡ t → find (λ z. same_text (key z) k) ys ≡ None
           → find (λ z. same_text (key z) k) (y ∷ ys) ≡ None
-      by true e later = absurd (not_both (sym all.0 ∙ ap (is_below (key x)) (same_is (key y) k e) ∙ not_less))
+      by true e later = absurd (not_both (sym all.0 ∙ ap (is_below (key x)) (same_text_is (key y) k e) ∙ not_less))
       by false e later = rw e later
 
   -- behind one that isn't below a key there is none with it, so that dropping it drops none
@@ -212,7 +180,7 @@ module _ {X : Type 0} (key : X → List ℕ) where
   kept_behind k x (y ∷ ys) not_less all = by (same_text (key y) k) refl (kept_behind k x ys not_less all.1)
     where
       by : (t : Bool) → same_text (key y) k ≡ t → drop_key key k ys ≡ ys → drop_key key k (y ∷ ys) ≡ y ∷ ys
-      by true e later = absurd (not_both (sym all.0 ∙ ap (is_below (key x)) (same_is (key y) k e) ∙ not_less))
+      by true e later = absurd (not_both (sym all.0 ∙ ap (is_below (key x)) (same_text_is (key y) k e) ∙ not_less))
       by false e later = rw e (ap (λ zs. y ∷ zs) later)
 
   -- a search for a key finds what stands at its place
@@ -233,7 +201,7 @@ module _ {X : Type 0} (key : X → List ℕ) where
       → slice_get xs n ≡ Some y → same_text (key y) k ≡ true → drop_key key k xs ≡ remove xs n
   dropped_at k [] n y up p at e = cc
   dropped_at k (x ∷ xs) zero y up p at e =
-      let is : same_text (key x) k ≡ true = subst (λ z. same_text (key z) k ≡ true) (sym (some_is x y at)) e in
+      let is : same_text (key x) k ≡ true = subst (λ z. same_text (key z) k ≡ true) (sym (same_Some x y at)) e in
       rw is (kept_behind k x xs (p.1 0 x (omega (arith)) (omega (arith))) (all_above x xs up))
   dropped_at k (x ∷ xs) (suc n) y up p at e =
       rw (below_differs (key x) k (p.0 0 x (omega (arith)) (omega (arith))))
@@ -246,7 +214,7 @@ module _ {X : Type 0} (key : X → List ℕ) where
   dropped_none k (x ∷ xs) zero up p none = by (same_text (key x) k) refl
     where
       by : (t : Bool) → same_text (key x) k ≡ t → drop_key key k (x ∷ xs) ≡ x ∷ xs
-      by true e = absurd (none_is_not_some x (sym none ∙ ap (λ (t : Bool). if t then Some x else None) e))
+      by true e = absurd (none-some x (sym none ∙ ap (λ (t : Bool). if t then Some x else None) e))
       by false e = rw e (ap (λ zs. x ∷ zs) (kept_behind k x xs (p.1 0 x (omega (arith)) (omega (arith)))
           (all_above x xs up)))
   dropped_none k (x ∷ xs) (suc n) up p none =
@@ -256,13 +224,13 @@ module _ {X : Type 0} (key : X → List ℕ) where
   -- a new key goes to its place
   pub put_at : (x : X) (xs : List X) (n : ℕ) → IsPlace key (key x) xs n → if_same key (key x) (slice_get xs n) ≡ None
       → n ≤ length xs → put_by_key key x xs ≡ insert xs n x
-  put_at x [] n p none within = sym (ap (λ (zs : List X). zs ++ x ∷ []) (take_nothing n)) ∙ ap
-      (λ (zs : List X). take n [] ++ x ∷ zs) (sym (drop_nothing n))
+  put_at x [] n p none within = sym (ap (λ (zs : List X). zs ++ x ∷ []) (take_nil n)) ∙ ap
+      (λ (zs : List X). take n [] ++ x ∷ zs) (sym (drop_nil n))
   put_at x (y ∷ ys) zero p none within = rw (same_or_above (key y) (key x) (p.1 0 y (omega (arith)) (omega (arith)))
       (by (same_text (key y) (key x)) refl)) refl
     where
       by : (t : Bool) → same_text (key y) (key x) ≡ t → t ≡ false
-      by true e = absurd (none_is_not_some y (sym none ∙ ap (λ (t : Bool). if t then Some y else None) e))
+      by true e = absurd (none-some y (sym none ∙ ap (λ (t : Bool). if t then Some y else None) e))
       by false e = refl
   put_at x (y ∷ ys) (suc n) p none within =
       rw (not_above (key y) (key x) (p.0 0 y (omega (arith)) (omega (arith))))
@@ -274,9 +242,9 @@ module _ {X : Type 0} (key : X → List ℕ) where
   replaced_at x [] n y up p at e = cc
   replaced_at x (z ∷ []) zero y up p at e = refl
   replaced_at x (z ∷ w ∷ ws) zero y up p at e =
-      let is : key z ≡ key x = ap key (some_is z y at) ∙ same_is (key y) (key x) e in
+      let is : key z ≡ key x = ap key (same_Some z y at) ∙ same_text_is (key y) (key x) e in
       rw (subst (λ k. is_below k (key w) ≡ true) is
-      (first_of (is_below (key z) (key w)) (ascend (map key (w ∷ ws))) up)) refl
+      (first_of_both (is_below (key z) (key w)) (ascend (map key (w ∷ ws))) up)) refl
   replaced_at x (z ∷ zs) (suc n) y up p at e =
       rw (not_above (key z) (key x) (p.0 0 z (omega (arith)) (omega (arith))))
       (ap (λ ws. z ∷ ws) (replaced_at x zs n y (tail_ascends z zs up) (place_behind (key x) z zs n p) at e))
@@ -385,7 +353,7 @@ pub above_at : {X : Type 0} (key : X → List ℕ) (k : List ℕ) (xs : List X) 
     → slice_get xs (suc n) ≡ find (λ y. is_below k (key y)) xs
 above_at key k [] n x up p at e = cc
 above_at key k (y ∷ ys) zero x up p at e =
-    let is : key y ≡ k = ap key (some_is y x at) ∙ same_is (key x) k e in
+    let is : key y ≡ k = ap key (same_Some y x at) ∙ same_text_is (key x) k e in
     rw (subst (λ l. is_below k l ≡ false) (sym is) (not_below_itself k))
     (first_above key k ys (subst (λ l. AllByRecursion (λ z. is_below l (key z) ≡ true) ys) is (all_above key y ys up)))
 above_at key k (y ∷ ys) (suc n) x up p at e =
@@ -400,7 +368,7 @@ above_none key k (y ∷ ys) zero up p none = rw (same_or_above (key y) k (p.1 0 
     (by (same_text (key y) k) refl)) refl
   where
     by : (t : Bool) → same_text (key y) k ≡ t → t ≡ false
-    by true e = absurd (none_is_not_some y (sym none ∙ ap (λ (t : Bool). if t then Some y else None) e))
+    by true e = absurd (none-some y (sym none ∙ ap (λ (t : Bool). if t then Some y else None) e))
     by false e = refl
 above_none key k (y ∷ ys) (suc n) up p none =
     rw (not_above (key y) k (p.0 0 y (omega (arith)) (omega (arith))))
@@ -427,11 +395,11 @@ put_in key x xs n up p none within = sym (ap (put_by_key key x) (dropped_none ke
 -- what stands at a place has another key
 pub differs_there : {X : Type 0} (key : X → List ℕ) (k : List ℕ) (xs : List X) (n : ℕ) (x : X) → slice_get xs n ≡ Some x
     → same_text (key x) k ≡ false → (y : X) → slice_get xs n ≡ Some y → same_text (key y) k ≡ false
-differs_there key k xs n x at e y also = subst (λ z. same_text (key z) k ≡ false) (some_is x y (sym at ∙ also)) e
+differs_there key k xs n x at e y also = subst (λ z. same_text (key z) k ≡ false) (same_Some x y (sym at ∙ also)) e
 
 pub past_none : {X : Type 0} (key : X → List ℕ) (k : List ℕ) (xs : List X) (n : ℕ) → length xs ≤ n → (y : X)
     → slice_get xs n ≡ Some y → same_text (key y) k ≡ false
-past_none key k [] n past y at = absurd (none_is_not_some y at)
+past_none key k [] n past y at = absurd (none-some y at)
 past_none key k (x ∷ xs) zero past y at = absurd (omega (arith, past))
 past_none key k (x ∷ xs) (suc n) past y at = past_none key k xs n (omega (arith, past)) y at
 
@@ -450,15 +418,15 @@ module _ {X : Type 0} (key : X → List ℕ) where
     where
       by : (t : Bool) → same_text (key y) k ≡ t → change_key key k change ys ≡ ys
           → change_key key k change (y ∷ ys) ≡ y ∷ ys
-      by true e later = absurd (not_both (sym all.0 ∙ ap (is_below (key x)) (same_is (key y) k e) ∙ not_less))
+      by true e later = absurd (not_both (sym all.0 ∙ ap (is_below (key x)) (same_text_is (key y) k e) ∙ not_less))
       by false e later = rw e (ap (λ zs. y ∷ zs) later)
 
   pub changed_at : (k : List ℕ) (change : X → X) (xs : List X) (n : ℕ) (y : X) → IsAscending key xs → IsPlace key k xs n
       → slice_get xs n ≡ Some y → same_text (key y) k ≡ true → slice_set xs n (change y) ≡ change_key key k change xs
   changed_at k change [] n y up p at e = cc
   changed_at k change (x ∷ xs) zero y up p at e =
-      let is : same_text (key x) k ≡ true = subst (λ z. same_text (key z) k ≡ true) (sym (some_is x y at)) e in
-      rw is (ap (λ z. change z ∷ xs) (sym (some_is x y at)) ∙ ap (λ zs. change x ∷ zs)
+      let is : same_text (key x) k ≡ true = subst (λ z. same_text (key z) k ≡ true) (sym (same_Some x y at)) e in
+      rw is (ap (λ z. change z ∷ xs) (sym (same_Some x y at)) ∙ ap (λ zs. change x ∷ zs)
       (sym (kept_changes k change x xs (p.1 0 x (omega (arith)) (omega (arith))) (all_above key x xs up))))
   changed_at k change (x ∷ xs) (suc n) y up p at e =
       rw (below_differs (key x) k (p.0 0 x (omega (arith)) (omega (arith))))
@@ -484,10 +452,21 @@ module _ {X : Type 0} (key : X → List ℕ) where
       → slice_get xs n ≡ Some y → same_text (key y) (key x) ≡ true → put_by_key key x xs ≡ insert xs (suc n) x
   put_behind x [] n y up p at e = cc
   put_behind x (z ∷ zs) zero y up p at e =
-      let is : key z ≡ key x = ap key (some_is z y at) ∙ same_is (key y) (key x) e in
+      let is : key z ≡ key x = ap key (same_Some z y at) ∙ same_text_is (key y) (key x) e in
       rw (subst (λ k. is_below k (key z) ≡ false) is (not_below_itself (key z)))
       (ap (λ ws. z ∷ ws) (before_above x zs (subst (λ k. AllByRecursion (λ w. is_below k (key w) ≡ true) zs) is
       (all_above key z zs up))))
   put_behind x (z ∷ zs) (suc n) y up p at e =
       rw (not_above (key z) (key x) (p.0 0 z (omega (arith)) (omega (arith))))
       (ap (λ ws. z ∷ ws) (put_behind x zs n y (tail_ascends key z zs up) (place_behind key (key x) z zs n p) at e))
+
+-- the others differ from one more, whose key none of them has
+pub still_differ : (key : List ℕ → List ℕ) (s : List ℕ) (segments rest : List (List ℕ))
+    → AllByRecursion (λ k. same_text (key s) k ≡ false) (map key rest)
+    → AllByRecursion (λ r. AllByRecursion (λ y. same_text (key y) (key r) ≡ false) segments) rest
+    → AllByRecursion (λ r. AllByRecursion (λ y. same_text (key y) (key r) ≡ false) (put_by_key key s segments)) rest
+still_differ key s segments [] head differ = tt
+still_differ key s segments (r ∷ rest) head differ = (
+  all_put key (λ y. same_text (key y) (key r) ≡ false) s segments head.0 differ.0,
+  still_differ key s segments rest head.1 differ.1,
+)

@@ -2,7 +2,7 @@
 use Rattle.std.proofs.Common.{◌≡◌, ◌⊎◌, inl, inr, refl, sym, ◌∙◌, ap, subst, arith, ℕ, zero, suc, ◌≤◌, List, [], ◌∷◌, ◌++◌, length, Some, slice_get, slice_set}
 use Rattle.std.specs.Prelude.{flat_map}
 use Rattle.std.proofs.lemmas.List.{append-nil, append_assoc, length-append}
-use Rattle.serial_order.proofs.Lists.{some_is}
+use Rattle.std.proofs.lemmas.Option.{same_Some}
 
 -- one piece in place of another
 pub record IsPut {A : Type 0} (old new before after : List A) : Type 0 where
@@ -18,7 +18,7 @@ put f [] i x y e = absurd cc
 put f (z ∷ zs) zero x y e = record {
   front = [];
   back = flat_map f zs;
-  was = ap (λ w. f w ++ flat_map f zs) (some_is z x e);
+  was = ap (λ w. f w ++ flat_map f zs) (same_Some z x e);
   is = refl;
 }
 put f (z ∷ zs) (suc i) x y e =

@@ -12,16 +12,14 @@ use Rattle.fp_model.specs.Machine.{Region, Idle, Active, Machine, is_among, term
 use Rattle.fp_model.specs.Rules.{Rules}
 use Rattle.serial_order.specs.Kept.{Kept, count, line_count, region_count}
 use Rattle.serial_order.specs.Laws.{Laws, View}
-use Rattle.serial_order.proofs.Lists.{get_contains, none_passes, true_is_not_false}
+use Rattle.serial_order.proofs.Lists.{none_passes, true_is_not_false}
 use Rattle.serial_order.proofs.Terminals.{contained}
 use Rattle.line_laws.specs.Answered.{is_from}
 use Rattle.line_laws.proofs.Turned.{of, of_queue, of_region, pending}
+use Rattle.plain_laws.proofs.Alls.{get_contains}
+use Rattle.plain_laws.proofs.Lists.{nil_by_length}
 
 -- ---- lists
-
-pub nothing : {A : Type 0} (xs : List A) → length xs ≡ 0 → xs ≡ []
-nothing [] e = refl
-nothing (x ∷ xs) e = absurd (omega (arith, e))
 
 length_flat : {X Y : Type 0} (f : X → List Y) (g : X → ℕ) → ((x : X) → length (f x) ≡ g x) → (xs : List X)
     → length (flat_map f xs) ≡ sum_by g xs
@@ -84,7 +82,7 @@ module _ (rules : Rules) (view : View) (order : Laws rules view) (m : Machine) (
             → (of rules (is_from rules (Some name)) line ≡ []) ⊎ (pending rules (is_from rules (Some name)) m ≡ [])
         by false is = inl (ap (λ (b : Bool). if b then line ∷ [] else []) is)
         by true is =
-            inr (nothing (pending rules (is_from rules (Some name)) m)
+            inr (nil_by_length (pending rules (is_from rules (Some name)) m)
             (omega (arith, pending_long, none_counted (nat_lt 0 (count rules name m)) refl is)))
 
   -- ---- lines without one

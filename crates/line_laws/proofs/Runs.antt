@@ -1,5 +1,5 @@
 -- Runs from rest: their entries answer just the lines.
-use Rattle.std.proofs.Common.{◌≡◌, refl, sym, ◌∙◌, ap, arith, ℕ, zero, suc, ◌-◌, ◌<◌, ◌≤◌, List, [], ◌∷◌, ◌++◌, length, drop, map, replicate, Bool, true, Option, Some, slice_get}
+use Rattle.std.proofs.Common.{◌≡◌, refl, sym, ◌∙◌, ap, arith, ℕ, zero, suc, ◌-◌, ◌≤◌, List, [], ◌∷◌, ◌++◌, length, drop, map, replicate, Bool, true, Option}
 use Rattle.std.specs.Prelude.{filter, flat_map}
 use Rattle.std.specs.List.{list_all}
 use Rattle.std.proofs.lemmas.List.{append-nil, append_assoc, drop_at, length-append}
@@ -22,13 +22,9 @@ use Rattle.line_laws.specs.Answered.{AreAnswered, answered_by, is_from, lines_an
 use Rattle.line_laws.proofs.Counted.{few_of, free_of}
 use Rattle.line_laws.proofs.Seals.{all_sealed, rests_sealed, sealed_run}
 use Rattle.line_laws.proofs.Turned.{ahead, all_of, of, of_entry, of_held, of_queue, of_region, turned}
+use Rattle.plain_laws.proofs.Places.{get_there}
 
 -- ---- lists
-
-is_there : {X : Type 0} (xs : List X) (i : ℕ) → i < length xs → (x : X) × (slice_get xs i ≡ Some x)
-is_there [] i few = absurd (omega (arith, few))
-is_there (x ∷ xs) zero few = (x, refl)
-is_there (x ∷ xs) (suc i) few = is_there xs i (omega (arith, few))
 
 flat_of : (rules : Rules) (p : List ℕ → Bool) (lines : List (List ℕ)) → flat_map (of rules p) lines ≡ filter p lines
 flat_of rules p [] = refl
@@ -87,7 +83,7 @@ module _ (rules : Rules) (gauge : Gauge) (ends : EndLaws rules gauge) (view : Vi
       (turn_kept rules view order m s.event s.environment s.after runs.0 k)
       (reached_then rules gauge ends view order m s.event s.environment s.after h runs.0) runs.1
       ∙ turned rules (is_from rules terminal) n m long (few_of rules view order m k terminal) order.lines order.refuses
-      (λ past line message is. is_there m.queues (rules.group_of message - 1)
+      (λ past line message is. get_there m.queues (rules.group_of message - 1)
       (omega (arith, ends.routed past line message is, h.live.queues)))
       (λ line free. free_of rules view order m k terminal line free) s.event s.environment s.after runs.0
 

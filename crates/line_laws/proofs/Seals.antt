@@ -14,7 +14,8 @@ use Rattle.fp_model.specs.Rules.{Rules}
 use Rattle.fp_model.specs.Runs.{RunStep, Runs}
 use Rattle.fp_model.specs.Turns.{Environment, NoFault, DeviceFault, OutOfMemory, Turn}
 use Rattle.fp_model.proofs.FrameLemmas.{turn_adds, turn_keeps}
-use Rattle.line_laws.proofs.Counted.{nothing}
+use Rattle.model_laws.proofs.Entries.{entries_push}
+use Rattle.plain_laws.proofs.Lists.{nil_by_length}
 
 -- Behind the entries from before stand those of the groups, and then those that aren't sealed.
 pub record AreSealed (rules : Rules) (before : List Entry) (m : Machine) : Type 0 where
@@ -22,11 +23,6 @@ pub record AreSealed (rules : Rules) (before : List Entry) (m : Machine) : Type 
   pub entries : m.history.entries ≡ before ++ (entries_of m.groups ++ rest)
   pub count : m.sealed + length rest ≡ length m.history.entries
   pub sent : m.sent ≡ flat_map rules.line_of (entries_of m.groups)
-
-entries_push : (groups : List (List Entry)) (group : List Entry)
-    → entries_of (groups ++ group ∷ []) ≡ entries_of groups ++ group
-entries_push groups group =
-    flat_map-append (λ (g : List Entry). g) groups (group ∷ []) ∙ ap (λ l. entries_of groups ++ l) (append-nil group)
 
 module _ (rules : Rules) (before : List Entry) where
   -- entries are added, and no more are sealed
@@ -132,7 +128,7 @@ rests_sealed rules lines h = record {
 pub all_sealed : (rules : Rules) (before later : List Entry) (m : Machine) → m.sealed ≡ place_of m.history
     → m.history.entries ≡ before ++ later → AreSealed rules before m → entries_of m.groups ≡ later
 all_sealed rules before later m all is s =
-    let none : s.rest ≡ [] = nothing s.rest (omega (arith, s.count, all)) in
+    let none : s.rest ≡ [] = nil_by_length s.rest (omega (arith, s.count, all)) in
     sym (drop_at before (entries_of m.groups) (length before) refl)
     ∙ ap (λ (es : List Entry). drop (length before) (before ++ es)) (sym (append-nil (entries_of m.groups)))
     ∙ ap (λ (es : List Entry). drop (length before) (before ++ (entries_of m.groups ++ es))) (sym none)

@@ -22,9 +22,9 @@ use Rattle.fp_model.specs.Serial.{Ending, refused_as, settled_as}
 use Rattle.fp_model.specs.Turns.{Act, Answers, Gains, Waits, Deadlocks, Retries_at_cycle, Finishes, Retries_at_verify, Does, Environment, NoFault, DeviceFault, OutOfMemory, PurgeTurn, RegionTurn, Turn, begins_in, begun_in, ending_of, is_area_held, messages_for, queue_of_region}
 use Rattle.fp_model.proofs.FrameLemmas.{turn_keeps}
 use Rattle.serial_order.specs.Laws.{IsRefusal}
-use Rattle.serial_order.proofs.Lists.{some_is, none_is_not_some}
 use Rattle.line_laws.specs.Answered.{answered_by}
 use Rattle.line_laws.proofs.Alone.{moves_in, moves_out, moves_over, moves_past, put}
+use Rattle.std.proofs.lemmas.Option.{none-some, same_Some}
 
 module _ (rules : Rules) (p : List ℕ → Bool) where
   -- ---- the lines of which p is so
@@ -104,10 +104,10 @@ module _ (rules : Rules) (p : List ℕ → Bool) where
     -- an end that the table gives is no Purge
     end_answers : (t : Transaction) (ask : Ask) (ending : Ending) (line : List ℕ)
         → ending_of rules m.history.now t ask ≡ Some ending → answered_by ending.outcome line ≡ line ∷ []
-    end_answers t (Asks call) ending line e = absurd (none_is_not_some ending e)
+    end_answers t (Asks call) ending line e = absurd (none-some ending e)
     end_answers t (Replies reply) ending line e =
         subst (λ (x : Ending). answered_by x.outcome line ≡ line ∷ [])
-        (some_is (settled_as m.history.now reply (rules.settle m.history.now t.point.own)) ending e)
+        (same_Some (settled_as m.history.now reply (rules.settle m.history.now t.point.own)) ending e)
         (by (rules.settle m.history.now t.point.own))
       where
         by : (s : Settlement) → answered_by (settled_as m.history.now reply s).outcome line ≡ line ∷ []
@@ -116,7 +116,7 @@ module _ (rules : Rules) (p : List ℕ → Bool) where
         by (FillsPart set begin end k) = refl
     end_answers t (Rolls code) ending line e =
         subst (λ (x : Ending). answered_by x.outcome line ≡ line ∷ [])
-        (some_is (refused_as (outcome.Roll code) m.history.now) ending e) refl
+        (same_Some (refused_as (outcome.Roll code) m.history.now) ending e) refl
 
     does : (place : ℕ) (t : Transaction) → slice_get m.regions place ≡ Some (Active t) → (act : Act) (m2 : Machine)
         → Does rules m (suc place) t act m2 → all_of n m2 ≡ all_of n m

@@ -1,9 +1,9 @@
 -- The laws of outcomes, items and entries.
-use Rattle.std.proofs.Common.{◌≡◌, ℕ, zero, suc, ◌^◌, ◌<◌, ◌≤◌, Bool, true, false, ◌&&◌, cond, eqb, List, [], ◌∷◌, ◌++◌, length}
-use Rattle.std.proofs.Common.{Some, None, refl, sym, ap, subst, ◌∙◌, append_assoc, arith}
+use Rattle.std.proofs.Common.{◌≡◌, ℕ, zero, suc, ◌^◌, ◌<◌, ◌≤◌, true, false, ◌&&◌, eqb, List, [], ◌∷◌, ◌++◌, length}
+use Rattle.std.proofs.Common.{Some, refl, sym, ap, subst, ◌∙◌, append_assoc, arith}
 use Rattle.std.specs.Int.{w64}
 use Rattle.std.specs.List.{AllByRecursion}
-use Rattle.std.proofs.lemmas.Bool.{eqb-true, eqb-false, ne_eqb}
+use Rattle.std.proofs.lemmas.Bool.{eqb-true, eqb-false, ne_eqb, and_parts}
 use Rattle.std.proofs.lemmas.List.{append-nil, nil_from_length}
 use Rattle.fp_model.specs.declared.log.Item.{Item}
 use Rattle.fp_model.specs.declared.log.Item.TheVariants.{Segment, Image, Range}
@@ -16,9 +16,11 @@ use Rattle.log_format.specs.Reading.{number_at, part_at, counted_at}
 use Rattle.log_format.specs.EntryReading.{some_long_at, seq_full_at, detail_at, outcome_at}
 use Rattle.log_format.specs.EntryReading.{kind_at, item_at, rest_at, keeps_rules, whole_at, entry_at}
 use Rattle.log_format.specs.Laws.{Takes, Lawful, IsShorter}
-use Rattle.log_format.proofs.Fields.{then, some_is, guard, bound, next, part_takes, part_again, law8, law16, law32, law64, short_law, long_law}
+use Rattle.log_format.proofs.Fields.{then, guard, next, part_takes, part_again, law8, law16, law32, law64, short_law, long_law}
 use Rattle.log_format.proofs.Lists.{counted_law}
-use Rattle.log_format.proofs.Rules.{both_true, KeepsRules-from, KeepsRules-to}
+use Rattle.log_format.proofs.Rules.{KeepsRules-from, KeepsRules-to}
+use Rattle.model_laws.proofs.Texts.{some_step}
+use Rattle.std.proofs.lemmas.Option.{cond_some, same_Some}
 
 join3 : (a b c d : List ℕ) → a ++ b ++ c ++ d ≡ a ++ (b ++ (c ++ d))
 join3 a b c d = simp append_assoc
@@ -41,7 +43,7 @@ Told code bytes y = (text : List ℕ) × (outcome_text y.0 ≡ code ∷ text) ×
 
 plain : (code : ℕ) (o : Outcome) (bytes : List ℕ) (x : Outcome × List ℕ) → IsBytes bytes → Some (o, bytes) ≡ Some x
     → outcome_text o ≡ code ∷ [] → IsGoodOutcome o → Told code bytes x
-plain code o bytes x fits e text ok = subst (λ (y : Outcome × List ℕ). Told code bytes y) (some_is (o, bytes) x e)
+plain code o bytes x fits e text ok = subst (λ (y : Outcome × List ℕ). Told code bytes y) (same_Some (o, bytes) x e)
     ([], text, record { parts = refl; rest_fits = fits }, ok)
 
 seq_full_takes : (bytes : List ℕ) (x : Outcome × List ℕ) → IsBytes bytes → seq_full_at bytes ≡ Some x → Told 3 bytes x
@@ -53,7 +55,7 @@ seq_full_takes bytes x fits e =
     let d = next law64 c.0.1 _ x c.1.rest_fits c.3 in
     let t = then bytes _ c.0.1 _ d.0.1 (then bytes _ b.0.1 _ c.0.1 (then bytes _ a.0.1 _ b.0.1 a.1 b.1) c.1) d.1 in
     let made : Outcome × List ℕ = (outcome.SeqFull a.0.0 b.0.0 c.0.0 d.0.0, d.0.1) in
-    subst (λ (y : Outcome × List ℕ). Told 3 bytes y) (some_is made x d.3) (_, refl, t, ((a.2, b.2, c.2, d.2), tt))
+    subst (λ (y : Outcome × List ℕ). Told 3 bytes y) (same_Some made x d.3) (_, refl, t, ((a.2, b.2, c.2, d.2), tt))
 
 detail_takes : (code : ℕ) (bytes : List ℕ) (x : Outcome × List ℕ) → IsBytes bytes → detail_at code bytes ≡ Some x
     → Told code bytes x
@@ -64,16 +66,16 @@ detail_takes (suc zero) bytes x fits e =
     let b = next law16 a.0.1 _ x a.1.rest_fits a.3 in
     let c = next long_law b.0.1 _ x b.1.rest_fits b.3 in
     let t = then bytes _ b.0.1 _ c.0.1 (then bytes _ a.0.1 _ b.0.1 a.1 b.1) c.1 in
-    subst (λ (y : Outcome × List ℕ). Told 1 bytes y) (some_is (outcome.Verify a.0.0 b.0.0 c.0.0, c.0.1) x c.3)
+    subst (λ (y : Outcome × List ℕ). Told 1 bytes y) (same_Some (outcome.Verify a.0.0 b.0.0 c.0.0, c.0.1) x c.3)
     (_, refl, t, ((a.2, b.2, c.2.1), c.2.0))
 detail_takes (suc (suc zero)) bytes x fits e =
     let a = next law16 bytes _ x fits e in
-    subst (λ (y : Outcome × List ℕ). Told 2 bytes y) (some_is (outcome.Roll a.0.0, a.0.1) x a.3)
+    subst (λ (y : Outcome × List ℕ). Told 2 bytes y) (same_Some (outcome.Roll a.0.0, a.0.1) x a.3)
     (_, refl, a.1, (a.2, tt))
 detail_takes (suc (suc (suc zero))) bytes x fits e = seq_full_takes bytes x fits e
 detail_takes (suc (suc (suc (suc zero)))) bytes x fits e =
     let a = next short_law bytes _ x fits e in
-    subst (λ (y : Outcome × List ℕ). Told 4 bytes y) (some_is (outcome.Deadlock a.0.0, a.0.1) x a.3)
+    subst (λ (y : Outcome × List ℕ). Told 4 bytes y) (same_Some (outcome.Deadlock a.0.0, a.0.1) x a.3)
     (_, refl, a.1, (a.2.1, a.2.0))
 detail_takes (suc (suc (suc (suc (suc zero))))) bytes x fits e = plain 5 outcome.Device bytes x fits e refl (tt, tt)
 detail_takes (suc (suc (suc (suc (suc (suc zero)))))) bytes x fits e =
@@ -84,15 +86,15 @@ detail_takes (suc (suc (suc (suc (suc (suc (suc (suc zero)))))))) bytes x fits e
     let a = next law16 bytes _ x fits e in
     let b = next law64 a.0.1 _ x a.1.rest_fits a.3 in
     let t = then bytes _ a.0.1 _ b.0.1 a.1 b.1 in
-    subst (λ (y : Outcome × List ℕ). Told 8 bytes y) (some_is (outcome.Purge a.0.0 b.0.0, b.0.1) x b.3)
+    subst (λ (y : Outcome × List ℕ). Told 8 bytes y) (same_Some (outcome.Purge a.0.0 b.0.0, b.0.1) x b.3)
     (_, refl, t, ((a.2, b.2), tt))
 detail_takes (suc (suc (suc (suc (suc (suc (suc (suc (suc zero))))))))) bytes x fits e =
     let a = next law64 bytes _ x fits e in
-    subst (λ (y : Outcome × List ℕ). Told 9 bytes y) (some_is (outcome.Old a.0.0, a.0.1) x a.3)
+    subst (λ (y : Outcome × List ℕ). Told 9 bytes y) (same_Some (outcome.Old a.0.0, a.0.1) x a.3)
     (_, refl, a.1, (a.2, tt))
 detail_takes (suc (suc (suc (suc (suc (suc (suc (suc (suc (suc zero)))))))))) bytes x fits e =
     let a = next long_law bytes _ x fits e in
-    let is : (outcome.Repeat a.0.0, a.0.1) ≡ x = some_is (outcome.Repeat a.0.0, a.0.1) x a.3 in
+    let is : (outcome.Repeat a.0.0, a.0.1) ≡ x = same_Some (outcome.Repeat a.0.0, a.0.1) x a.3 in
     subst (λ (y : Outcome × List ℕ). Told 10 bytes y) is (_, refl, a.1, (a.2.1, a.2.0))
 detail_takes (suc (suc (suc (suc (suc (suc (suc (suc (suc (suc (suc zero))))))))))) bytes x fits e =
     plain 11 outcome.Format bytes x fits e refl (tt, tt)
@@ -181,14 +183,14 @@ kind_takes (suc zero) bytes x fits e =
     let c = next long_law b.0.1 _ x b.1.rest_fits b.3 in
     let t = then bytes _ b.0.1 _ c.0.1 (then bytes _ a.0.1 _ b.0.1 a.1 b.1) c.1 in
     subst (λ (y : Item × List ℕ). (text : List ℕ) × (item_text y.0 ≡ 1 ∷ text) × Takes bytes text y.1 × IsGoodItem y.0)
-    (some_is (Segment a.0.0 b.0.0 c.0.0, c.0.1) x c.3) (_, refl, t, ((a.2, b.2.1, c.2.1), (b.2.0, c.2.0)))
+    (same_Some (Segment a.0.0 b.0.0 c.0.0, c.0.1) x c.3) (_, refl, t, ((a.2, b.2.1, c.2.1), (b.2.0, c.2.0)))
 kind_takes (suc (suc zero)) bytes x fits e =
     let a = next law16 bytes _ x fits e in
     let b = next law64 a.0.1 _ x a.1.rest_fits a.3 in
     let c = next long_law b.0.1 _ x b.1.rest_fits b.3 in
     let t = then bytes _ b.0.1 _ c.0.1 (then bytes _ a.0.1 _ b.0.1 a.1 b.1) c.1 in
     subst (λ (y : Item × List ℕ). (text : List ℕ) × (item_text y.0 ≡ 2 ∷ text) × Takes bytes text y.1 × IsGoodItem y.0)
-    (some_is (Image a.0.0 b.0.0 c.0.0, c.0.1) x c.3) (_, refl, t, ((a.2, b.2, c.2.1), c.2.0))
+    (same_Some (Image a.0.0 b.0.0 c.0.0, c.0.1) x c.3) (_, refl, t, ((a.2, b.2, c.2.1), c.2.0))
 kind_takes (suc (suc (suc zero))) bytes x fits e =
     let a = next law16 bytes _ x fits e in
     let b = next law64 a.0.1 _ x a.1.rest_fits a.3 in
@@ -197,7 +199,7 @@ kind_takes (suc (suc (suc zero))) bytes x fits e =
     let t = then bytes _ c.0.1 _ d.0.1 (then bytes _ b.0.1 _ c.0.1 (then bytes _ a.0.1 _ b.0.1 a.1 b.1) c.1) d.1 in
     let good : IsGoodItem (Range a.0.0 b.0.0 c.0.0 d.0.0) = ((a.2, b.2, c.2, d.2.1.1), (d.2.0, d.2.1.0)) in
     subst (λ (y : Item × List ℕ). (text : List ℕ) × (item_text y.0 ≡ 3 ∷ text) × Takes bytes text y.1 × IsGoodItem y.0)
-    (some_is (Range a.0.0 b.0.0 c.0.0 d.0.0, d.0.1) x d.3) (_, refl, t, good)
+    (same_Some (Range a.0.0 b.0.0 c.0.0 d.0.0, d.0.1) x d.3) (_, refl, t, good)
 kind_takes (suc (suc (suc (suc n)))) bytes x fits e = absurd cc
 
 item_again : (i : Item) (rest : List ℕ) → IsGoodItem i → item_at (item_text i ++ rest) ≡ Some (i, rest)
@@ -310,7 +312,7 @@ rest_takes bytes x fits e =
       },
       g.0.1,
     ) in
-    subst (λ (y : Entry × List ℕ). Takes bytes (rest_text y.0) y.1 × IsRest y.0) (some_is made x g.3)
+    subst (λ (y : Entry × List ℕ). Takes bytes (rest_text y.0) y.1 × IsRest y.0) (same_Some made x g.3)
     (t5, record { from = a.2; outcome = b.2; line = c.2; reply = d.2; notes = f.2; items = g.2 })
 
 rest_again : (e : Entry) (more : List ℕ) → IsRest e → rest_at (rest_text e ++ more) ≡ Some (e, more)
@@ -326,10 +328,6 @@ rest_again e more fits =
       notes_law.again e.notes _ fits.notes,
       items_law.again e.items more fits.items,
     ) refl
-
-ended : {A : Type 0} (b : Bool) (x y : A) → cond b (Some x) None ≡ Some y → (b ≡ true) × (x ≡ y)
-ended true x y e = (refl, cc)
-ended false x y e = absurd cc
 
 spelled : (e : Entry) → IsRest e → length (rest_text e) < 2 ^ 64 → keeps_rules e ≡ true → HasSpelling e
 spelled e r whole rules = record {
@@ -370,12 +368,12 @@ entry_takes : (bytes : List ℕ) (x : Entry × List ℕ) → IsBytes bytes → e
 unfolding entry_at whole_at
 entry_takes bytes x fits e =
     let a = next law64 bytes _ x fits e in
-    let b = bound (part_at a.0.0 a.0.1) _ x a.3 in
+    let b = some_step (part_at a.0.0 a.0.1) _ x a.3 in
     let p = part_takes a.0.0 a.0.1 b.0 a.1.rest_fits b.1 in
-    let c = bound (whole_at b.0.0) _ x b.2 in
-    let d = bound (rest_at b.0.0) _ c.0 c.1 in
-    let g = ended (eqb (length d.0.1) 0 && keeps_rules d.0.0) d.0.0 c.0 d.2 in
-    let tests = both_true (eqb (length d.0.1) 0) (keeps_rules d.0.0) g.0 in
+    let c = some_step (whole_at b.0.0) _ x b.2 in
+    let d = some_step (rest_at b.0.0) _ c.0 c.1 in
+    let g = cond_some (eqb (length d.0.1) 0 && keeps_rules d.0.0) d.0.0 c.0 d.2 in
+    let tests = and_parts (eqb (length d.0.1) 0) (keeps_rules d.0.0) g.0 in
     let r = rest_takes b.0.0 d.0 p.2 d.1 in
     let nothing : d.0.1 ≡ [] = nil_from_length d.0.1 (eqb-true _ _ tests.0) in
     let whole : b.0.0 ≡ rest_text d.0.0 = r.0.parts ∙ ap (λ (t : List ℕ). rest_text d.0.0 ++ t) nothing ∙ append-nil
@@ -389,7 +387,7 @@ entry_takes bytes x fits e =
     } in
     let ok : HasSpelling d.0.0 = spelled d.0.0 r.1 (subst (λ (n : ℕ). n < 2 ^ 64) len a.2) tests.1 in
     subst (λ (y : Entry × List ℕ). Takes bytes (entry_text y.0) y.1 × HasSpelling y.0)
-    (ap (λ (v : Entry). (v, b.0.1)) g.1 ∙ some_is (c.0, b.0.1) x c.2) (told, ok)
+    (ap (λ (v : Entry). (v, b.0.1)) g.1 ∙ same_Some (c.0, b.0.1) x c.2) (told, ok)
 
 entry_again : (e : Entry) (more : List ℕ) → HasSpelling e → entry_at (entry_text e ++ more) ≡ Some (e, more)
 unfolding entry_at whole_at

@@ -10,6 +10,8 @@ use Rattle.fp_model.specs.LogText.{IsBytes}
 use Rattle.log_format.specs.Reading.{byte_at, number_at, part_at, short_at, long_at, part_text_at}
 use Rattle.fp_model.specs.Values.{◌>>=◌}
 use Rattle.log_format.specs.Laws.{Takes, Lawful, IsShorter}
+use Rattle.model_laws.proofs.Texts.{some_step}
+use Rattle.std.proofs.lemmas.Option.{same_Some}
 
 -- ---- bytes
 
@@ -50,26 +52,17 @@ then a x b y c p q = record {
   rest_fits = q.rest_fits;
 }
 
-pub some_is : {A : Type 0} (x y : A) → Some x ≡ Some y → x ≡ y
-some_is x y e = cc
-
 -- a test that did not fail
 pub guard : {A : Type 0} (b : Bool) (x y : A) → cond b None (Some x) ≡ Some y → (b ≡ false) × (x ≡ y)
 guard true x y e = absurd cc
 guard false x y e = (refl, cc)
-
--- a step that did not fail
-pub bound : {A B : Type 0} (r : Option A) (f : A → Option B) (y : B) → (r >>= f) ≡ Some y → (x : A) × (r ≡ Some x)
-    × (f x ≡ Some y)
-bound None f y e = absurd cc
-bound (Some x) f y e = (x, refl, e)
 
 -- the next field of several
 pub next : {X B : Type 0} {text : X → List ℕ} {at : List ℕ → Option (X × List ℕ)} {Fits : X → Type 0}
     → Lawful X text at Fits → (bytes : List ℕ) (f : X × List ℕ → Option B) (y : B) → IsBytes bytes
     → (at bytes >>= f) ≡ Some y → (x : X × List ℕ) × Takes bytes (text x.0) x.1 × Fits x.0 × (f x ≡ Some y)
 next {at = at} law bytes f y fits e =
-    let b = bound (at bytes) f y e in
+    let b = some_step (at bytes) f y e in
     let t = law.takes bytes b.0 fits b.1 in
     (b.0, t.0, t.1, b.2)
 
@@ -176,7 +169,7 @@ law8 = record { takes = byte_takes; again = λ n rest lt. refl }
         × (x.0 < 2 ^ 8)
     byte_takes [] x fits e = absurd cc
     byte_takes (b ∷ bytes) x fits e = subst (λ (y : ℕ × List ℕ). Takes (b ∷ bytes) (y.0 ∷ []) y.1 × (y.0 < 2 ^ 8))
-        (some_is (b, bytes) x e) (record { parts = refl; rest_fits = fits.1 }, fits.0)
+        (same_Some (b, bytes) x e) (record { parts = refl; rest_fits = fits.1 }, fits.0)
 
 -- a number of two bytes
 pub law16 : Lawful ℕ be16 (number_at w16) (λ n. n < 2 ^ 16)

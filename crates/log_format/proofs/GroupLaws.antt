@@ -1,9 +1,9 @@
 -- The laws of groups: bytes begin with at most one group, a log reads in one way, and what is damage.
-use Rattle.std.proofs.Common.{◌≡◌, ◌≢◌, ℕ, ◌+◌, ◌<◌, ◌^◌, List, [], ◌∷◌, ◌++◌, length, drop, get_or, Option, Some, refl, sym, ap, subst, ◌∙◌, append_assoc, arith}
+use Rattle.std.proofs.Common.{◌≡◌, ◌≢◌, ℕ, ◌+◌, ◌<◌, ◌^◌, List, [], ◌∷◌, ◌++◌, length, drop, Option, Some, refl, sym, ap, subst, ◌∙◌, append_assoc, arith}
 use Rattle.std.specs.Prelude.{slice_index}
 use Rattle.std.specs.Int.{w64}
 use Rattle.std.specs.List.{AllByRecursion}
-use Rattle.std.proofs.lemmas.List.{length-append, get_or-drop}
+use Rattle.std.proofs.lemmas.List.{length-append}
 use Rattle.std.proofs.lemmas.List.Concat.{flat_map-cons}
 use Rattle.fp_model.specs.declared.log.Entry.{Entry}
 use Rattle.fp_model.specs.Spellings.{be64}
@@ -13,6 +13,7 @@ use Rattle.log_format.specs.Faults.{Spells}
 use Rattle.log_format.specs.Reading.{number_at, part_at}
 use Rattle.log_format.proofs.Fields.{law64, length-be64, part_again}
 use Rattle.log_format.proofs.Bodies.{one_body, entry-some}
+use Rattle.plain_laws.proofs.Lists.{head_is}
 
 -- ---- one group
 
@@ -63,7 +64,7 @@ one_group es fs x y he hf h =
 abbrev pub Stops : List ℕ → Type 0
 Stops bytes = (entries : List Entry) (rest : List ℕ) → IsGroup entries → bytes ≢ group_text entries ++ rest
 
-groups-cons : (es : List Entry) (gs : List (List Entry)) (rest : List ℕ)
+pub groups-cons : (es : List Entry) (gs : List (List Entry)) (rest : List ℕ)
     → groups_text (es ∷ gs) ++ rest ≡ group_text es ++ (groups_text gs ++ rest)
 groups-cons es gs rest = ap (λ (t : List ℕ). t ++ rest) (flat_map-cons group_text es gs) ∙ append_assoc (group_text es)
     (groups_text gs) rest
@@ -84,18 +85,10 @@ one_list (es ∷ gs) (fs ∷ hs) x y hg hh sx sy h =
     let b = one_list gs hs x y hg.1 hh.1 sx sy a.1 in
     (cons_alike es fs gs hs a.0 b.0, b.1)
 
--- the byte at a place is the first behind it
-first_behind : (bytes : List ℕ) (at b : ℕ) (rest : List ℕ) → drop at bytes ≡ b ∷ rest → slice_index bytes at ≡ b
-first_behind bytes at b rest h =
-    let e : get_or (drop at bytes) 0 0 ≡ b = ap (λ (t : List ℕ). get_or t 0 0) h in
-    let g : get_or (drop at bytes) 0 0 ≡ get_or bytes (at + 0) 0 = get_or-drop at bytes 0 0 in
-    let z : at + 0 ≡ at = omega arith in
-    ap (λ (n : ℕ). get_or bytes n 0) (sym z) ∙ sym g ∙ e
-
 -- where the gate isn't open no group begins
 closed_stops : (bytes : List ℕ) (gate : ℕ) → slice_index bytes gate ≢ 1 → Stops (drop gate bytes)
 closed_stops bytes gate closed entries rest group h =
-    closed (first_behind bytes gate 1 (be64 (length (body_text entries)) ++ body_text entries ++ rest) h)
+    closed (head_is bytes gate 1 (be64 (length (body_text entries)) ++ body_text entries ++ rest) h)
 
 -- two ways to hold groups up to where none begins are one
 pub one_holding : (bytes : List ℕ) (at : ℕ) (gs hs : List (List Entry)) (gate gate2 : ℕ) → HoldsGroups bytes at gs gate
@@ -135,7 +128,7 @@ pub no_body : (bytes : List ℕ) (at size : ℕ) (body rest : List ℕ) → drop
     → size < 2 ^ 64 → length body ≡ size
     → ((entries : List Entry) → IsBody body entries → ⊥) → IsDamaged bytes at
 no_body bytes at size body rest text small len none = record {
-  gate = first_behind bytes at 1 (be64 size ++ body ++ rest) text;
+  gate = head_is bytes at 1 (be64 size ++ body ++ rest) text;
   no_group = λ entries more group h.
       let sizes : be64 size ++ (body ++ rest) ≡ be64 (length (body_text entries)) ++ (body_text entries ++ more) =
       sym (append_assoc (be64 size) body rest)
@@ -152,7 +145,7 @@ no_body bytes at size body rest text small len none = record {
 pub past_end : (bytes : List ℕ) (at size : ℕ) (rest : List ℕ) → drop at bytes ≡ 1 ∷ be64 size ++ rest → size < 2 ^ 64
     → length rest < size → IsDamaged bytes at
 past_end bytes at size rest text small short = record {
-  gate = first_behind bytes at 1 (be64 size ++ rest) text;
+  gate = head_is bytes at 1 (be64 size ++ rest) text;
   no_group = λ entries more group h.
       let sizes : be64 size ++ rest ≡ be64 (length (body_text entries)) ++ (body_text entries ++ more) =
       behind_gate (be64 size ++ rest) (be64 (length (body_text entries)) ++ body_text entries ++ more) (sym text ∙ h)
@@ -165,7 +158,7 @@ past_end bytes at size rest text small short = record {
 pub no_length : (bytes : List ℕ) (at : ℕ) (rest : List ℕ) → drop at bytes ≡ 1 ∷ rest → length rest < 8
     → IsDamaged bytes at
 no_length bytes at rest text short = record {
-  gate = first_behind bytes at 1 rest text;
+  gate = head_is bytes at 1 rest text;
   no_group = λ entries more group h.
       let same : rest ≡ be64 (length (body_text entries)) ++ body_text entries ++ more =
       behind_gate rest (be64 (length (body_text entries)) ++ body_text entries ++ more) (sym text ∙ h) in

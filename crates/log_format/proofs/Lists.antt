@@ -6,7 +6,9 @@ use Rattle.fp_model.specs.Spellings.{be32}
 use Rattle.fp_model.specs.LogText.{IsBytes}
 use Rattle.log_format.specs.Reading.{many_at, counted_at}
 use Rattle.log_format.specs.Laws.{Takes, Lawful, counted_text}
-use Rattle.log_format.proofs.Fields.{then, some_is, bound, next, law32}
+use Rattle.log_format.proofs.Fields.{then, next, law32}
+use Rattle.model_laws.proofs.Texts.{some_step}
+use Rattle.std.proofs.lemmas.Option.{same_Some}
 
 module _ (X : Type 0) (text : X → List ℕ) (at : List ℕ → Option (X × List ℕ)) (Fits : X → Type 0)
     (law : Lawful X text at Fits) where
@@ -16,15 +18,15 @@ module _ (X : Type 0) (text : X → List ℕ) (at : List ℕ → Option (X × Li
   unfolding many_at
   many_takes zero bytes x fits e =
       subst (λ (y : List X × List ℕ). Takes bytes (flat_map text y.0) y.1 × (length y.0 ≡ 0) × AllByRecursion Fits y.0)
-      (some_is ([], bytes) x e) (record { parts = refl; rest_fits = fits }, refl, tt)
+      (same_Some ([], bytes) x e) (record { parts = refl; rest_fits = fits }, refl, tt)
   many_takes (suc n) bytes x fits e =
       let a = next law bytes _ x fits e in
-      let b = bound (many_at at n a.0.1) _ x a.3 in
+      let b = some_step (many_at at n a.0.1) _ x a.3 in
       let second = many_takes n a.0.1 b.0 a.1.rest_fits b.1 in
       let both = then bytes (text a.0.0) a.0.1 (flat_map text b.0.0) b.0.1 a.1 second.0 in
       let made : List X × List ℕ = (a.0.0 ∷ b.0.0, b.0.1) in
       subst (λ (y : List X × List ℕ). Takes bytes (flat_map text y.0) y.1 × (length y.0 ≡ suc n)
-      × AllByRecursion Fits y.0) (some_is made x b.2) (rw flat_map-cons both, ap suc second.1, (a.2, second.2))
+      × AllByRecursion Fits y.0) (same_Some made x b.2) (rw flat_map-cons both, ap suc second.1, (a.2, second.2))
 
   -- so many are read again
   pub many_again : (xs : List X) (rest : List ℕ) → AllByRecursion Fits xs

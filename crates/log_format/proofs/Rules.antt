@@ -1,6 +1,6 @@
 -- The rules on entries, as tests and as facts.
-use Rattle.std.proofs.Common.{◌≡◌, ℕ, Bool, true, false, ◌&&◌, eqb, List, [], ◌∷◌, length, refl}
-use Rattle.std.proofs.lemmas.Bool.{eqb-true}
+use Rattle.std.proofs.Common.{◌≡◌, ℕ, true, ◌&&◌, eqb, List, [], ◌∷◌, length, refl}
+use Rattle.std.proofs.lemmas.Bool.{eqb-true, and_parts}
 use Rattle.std.proofs.lemmas.List.{nil_from_length}
 use Rattle.fp_model.specs.declared.log.Item.{Item}
 use Rattle.fp_model.specs.declared.log.Outcome.{Outcome}
@@ -17,18 +17,13 @@ pub ascending_step : (item : Item) (more : List Item)
 ascending_step item [] = refl
 ascending_step item (next ∷ more) = refl
 
--- both tests hold
-pub both_true : (a b : Bool) → (a && b) ≡ true → (a ≡ true) × (b ≡ true)
-both_true true b e = (refl, e)
-both_true false b e = absurd cc
-
 empty_from : {X : Type 0} (xs : List X) → eqb (length xs) 0 ≡ true → xs ≡ []
 empty_from xs e = nil_from_length xs (eqb-true _ _ e)
 
 empties_from : {X Y : Type 0} (xs : List X) (ys : List Y) → (eqb (length xs) 0 && eqb (length ys) 0) ≡ true → (xs ≡ [])
     × (ys ≡ [])
 empties_from xs ys e =
-    let b = both_true (eqb (length xs) 0) (eqb (length ys) 0) e in
+    let b = and_parts (eqb (length xs) 0) (eqb (length ys) 0) e in
     (empty_from xs b.0, empty_from ys b.1)
 
 empties_to : {X Y : Type 0} (xs : List X) (ys : List Y) → (xs ≡ []) × (ys ≡ [])
@@ -68,7 +63,7 @@ parts_to outcome.Format reply items p = empties_to reply items p
 -- an entry that passes the test keeps the rules
 pub KeepsRules-from : (e : Entry) → keeps_rules e ≡ true → KeepsRules e
 KeepsRules-from e h =
-    let b = both_true (is_ascending e.items) (has_its_parts e.outcome e.reply e.items) h in
+    let b = and_parts (is_ascending e.items) (has_its_parts e.outcome e.reply e.items) h in
     record { in_order = b.0; parts = parts_from e.outcome e.reply e.items b.1 }
 
 -- an entry that keeps the rules passes the test

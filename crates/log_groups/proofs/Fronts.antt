@@ -1,17 +1,11 @@
 -- Fronts of the two formats for the same definitions and scripts.
-use Rattle.std.proofs.Common.{◌≡◌, ◌⊎◌, inl, inr, ℕ, zero, suc, ◌+◌, List, ◌++◌, length, take, drop, get_or, refl, sym, ◌∙◌, ap, subst, arith}
+use Rattle.std.proofs.Common.{◌≡◌, ◌⊎◌, inl, inr, ℕ, List, ◌++◌, take, drop, get_or, sym, ◌∙◌, ap, subst, arith}
 use Rattle.std.specs.Prelude.{Option, Some, None, IfSome}
 use Rattle.std.proofs.lemmas.List.{take-append-drop}
 use Rattle.std.proofs.Math.Seq.{take-append_seam}
 use Rattle.fp_model.specs.LogText.{Front, IsFormat, StartsWithFront, front_text, first_gate}
 use Rattle.log_groups.specs.Images.{in_format}
 use Rattle.log_groups.proofs.Shutting.{length-front}
-
--- there are two
-pub format_is : (format : ℕ) → IsFormat format → (format ≡ 1) ⊎ (format ≡ 2)
-format_is format (zero, lt, is) = inl (sym is)
-format_is format (suc zero, lt, is) = inr (sym is)
-format_is format (suc (suc i), lt, is) = absurd (omega (arith, lt))
 
 -- their fronts are equally long
 pub same_gate : (format : ℕ) (front : Front) → first_gate (in_format format front) ≡ first_gate front

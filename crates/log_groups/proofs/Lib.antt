@@ -5,3 +5,4 @@ pub mod Fronts
 pub mod BodyReads
 pub mod BufferParts
 pub mod Sealing
+pub mod Errs

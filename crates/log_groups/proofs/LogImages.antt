@@ -1,9 +1,9 @@
 -- The images of a log: where its bytes change behind the closed gate, where that gate stays closed, and where it opens
 -- before a whole group.
-use Rattle.std.proofs.Common.{◌≡◌, ◌≢◌, ℕ, suc, ◌+◌, ◌<◌, ◌≤◌, List, [], ◌∷◌, ◌++◌, length, take, drop, get_or, refl, sym, ◌∙◌, ap, arith, append_assoc}
+use Rattle.std.proofs.Common.{◌≡◌, ◌≢◌, ℕ, suc, ◌+◌, ◌<◌, ◌≤◌, List, [], ◌∷◌, ◌++◌, length, take, drop, refl, sym, ◌∙◌, ap, arith, append_assoc}
 use Rattle.std.specs.Prelude.{slice_index}
 use Rattle.std.specs.List.{AllByRecursion}
-use Rattle.std.proofs.lemmas.List.{length-append, take_at, drop_at, take-append-drop, append-nil, get_or-drop}
+use Rattle.std.proofs.lemmas.List.{length-append, take_at, drop_at, take-append-drop, append-nil}
 use Rattle.std.proofs.lemmas.List.Concat.{flat_map-cons, flat_map-append}
 use Rattle.fp_model.specs.declared.log.Entry.{Entry}
 use Rattle.fp_model.specs.LogText.{Front, front_text, group_text, groups_text}
@@ -12,20 +12,8 @@ use Rattle.fp_model.specs.Recovery.{Holds}
 use Rattle.log_groups.specs.Images.{IsLog, gate_behind}
 use Rattle.log_groups.specs.inside.Images.{before_gate}
 use Rattle.log_groups.specs.Reads.{HasGroup}
-
--- the byte at a place is the first from there on
-pub head_is : (bytes : List ℕ) (at b : ℕ) (rest : List ℕ) → drop at bytes ≡ b ∷ rest → slice_index bytes at ≡ b
-head_is bytes at b rest h = ap (λ n. get_or bytes n 0) at_zero ∙ sym (get_or-drop at bytes 0 0) ∙ ap (λ t. get_or t 0 0)
-    h
-  where
-    at_zero : at ≡ at + 0
-    at_zero = omega arith
-
--- all of a list, and one more
-pub all-append : {X : Type 0} (P : X → Type 0) (xs ys : List X) → AllByRecursion P xs → AllByRecursion P ys
-    → AllByRecursion P (xs ++ ys)
-all-append P [] ys a b = b
-all-append P (x ∷ xs) ys a b = (a.0, all-append P xs ys a.1 b)
+use Rattle.plain_laws.proofs.Alls.{all_append}
+use Rattle.plain_laws.proofs.Lists.{head_is}
 
 -- the text of groups and one more
 pub groups_text-append : (groups : List (List Entry)) (entries : List Entry)
@@ -138,7 +126,7 @@ open_front front groups gate old new entries next junk holds same group behind s
     head_is new (gate_behind gate entries) next junk end in
     log_of front (groups ++ entries ∷ []) (gate_behind gate entries) new
     (record {
-      each = all-append IsGroup groups (entries ∷ []) shape.each (group, tt);
+      each = all_append IsGroup groups (entries ∷ []) shape.each (group, tt);
       place = place;
       text = all ∙ ap (λ t. more ++ t) (sym end);
     }) stands (λ one. shut (sym byte ∙ one))
@@ -148,7 +136,7 @@ pub groups_more : (bytes : List ℕ) (at : ℕ) (groups : List (List Entry)) (ga
     → HoldsGroups bytes at groups gate → HasGroup bytes gate entries next
     → HoldsGroups bytes at (groups ++ entries ∷ []) next
 groups_more bytes at groups gate entries next holds more = record {
-  each = all-append IsGroup groups (entries ∷ []) holds.each (more.group, tt);
+  each = all_append IsGroup groups (entries ∷ []) holds.each (more.group, tt);
   next = more.next_is ∙ omega (
     arith,
     holds.next,

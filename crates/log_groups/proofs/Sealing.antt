@@ -20,12 +20,14 @@ use Rattle.log_format.proofs.Fields.{length-be64}
 use Rattle.log_format.proofs.Lists.{many_again}
 use Rattle.log_format.proofs.EntryLaws.{entry_law}
 use Rattle.gated_write.specs.Gates.{IsGatedImage}
-use Rattle.log_groups.specs.Images.{IsLog, IsAtRest, IsWithOrWithout, IsBeforeOrAfter, gate_behind, with_group, with_group_at}
+use Rattle.log_groups.specs.Images.{IsLog, IsAtRest, IsKept, IsWithOrWithout, IsBeforeOrAfter, gate_behind, with_group, with_group_at}
 use Rattle.log_groups.specs.inside.Images.{IsGated, IsOpened, SpellsGroup}
 use Rattle.log_groups.specs.Log.{IsBuffered, values_of, entries_in}
-use Rattle.log_groups.specs.inside.Log.{part_text}
-use Rattle.log_groups.proofs.LogImages.{all-append, head_is, closed_front, open_front}
+use Rattle.log_groups.specs.inside.Log.{IsOldest, part_text}
+use Rattle.log_groups.proofs.LogImages.{closed_front, open_front}
 use Rattle.log_groups.proofs.BufferParts.{all-drop, all-take, length-entry}
+use Rattle.plain_laws.proofs.Alls.{all_append}
+use Rattle.plain_laws.proofs.Lists.{head_is}
 
 -- ---- the log
 
@@ -61,16 +63,33 @@ sealed_through front groups gate bytes entries h a rest spells run =
     weaker (IsGated (h.contents 0) gate bytes) (IsBeforeOrAfter front groups gate entries) h a
     (λ s p. gated_log front groups gate (h.contents 0) bytes entries rest.log spells (s.images 0) p) run
 
+-- where there are entries they are one more group
+with_some : (groups : List (List Entry)) (entries : List Entry) → 1 ≤ length entries
+    → groups ++ entries ∷ [] ≡ with_group groups entries
+with_some groups [] some = absurd (omega arith)
+with_some groups (e ∷ entries) some = refl
+
 -- and at Ok
-pub sealed_log : (front : Front) (groups : List (List Entry)) (gate : ℕ) (bytes : List ℕ) (entries : List Entry)
-    (h a : Disk) → Holds front (h.contents 0) groups gate → SpellsGroup bytes entries
-    → IsOpened (h.contents 0) gate bytes a → IsAtRest a front (groups ++ entries ∷ []) (gate_behind gate entries)
-sealed_log front groups gate bytes entries h a holds spells opened = record {
-  durable = opened.durable;
-  log = open_front front groups gate (h.contents 0) (a.contents 0) entries 0 opened.rest holds opened.front
-      spells.group
-      (opened.behind ∙ group_behind bytes opened.rest entries spells) (λ one. omega (arith, one));
-}
+pub sealed_log : (front : Front) (groups : List (List Entry)) (gate size : ℕ) (old bytes : List ℕ)
+    (entries : List Entry) (new : Disk) → Holds front old groups gate → SpellsGroup bytes entries
+    → size ≡ length (group_text entries) → IsOpened old gate bytes new
+    → IsAtRest new front (with_group groups entries) (gate + size)
+sealed_log front groups gate size old bytes entries new holds spells size_is opened =
+    rw (size_is, ← with_some groups entries spells.group.some) (record {
+      durable = opened.durable;
+      log = open_front front groups gate old (new.contents 0) entries 0 opened.rest holds opened.front
+          spells.group
+          (opened.behind ∙ group_behind bytes opened.rest entries spells) (λ one. omega (arith, one));
+    })
+
+-- so also where the gate was absent
+pub sealed_kept : (front : Front) (groups : List (List Entry)) (gate size : ℕ) (old bytes : List ℕ)
+    (entries : List Entry) (new : Disk) → Holds front old groups gate → SpellsGroup bytes entries
+    → size ≡ length (group_text entries) → IsOpened old gate bytes new
+    → IsKept new front (with_group groups entries) (gate + size)
+sealed_kept front groups gate size old bytes entries new holds spells size_is opened =
+    let rest = sealed_log front groups gate size old bytes entries new holds spells size_is opened in
+    record { durable = rest.durable; holds = rest.log.holds }
 
 -- and just these bytes
 pub sealed_text : (gate : ℕ) (old bytes : List ℕ) (entries : List Entry) (new : Disk) → SpellsGroup bytes entries
@@ -88,12 +107,6 @@ sealed_text gate old bytes entries new spells opened =
     sym (take-append-drop gate (new.contents 0)) ∙ ap (λ l. l ++ drop gate (new.contents 0)) opened.front
     ∙ ap (λ l. take gate old ++ l) (opened.behind ∙ group_behind bytes opened.rest entries spells)
     ∙ ap (λ l. take gate old ++ (group_text entries ++ (0 ∷ l))) (opened.stood ∙ ap (λ n. drop n old) places)
-
--- where there are entries they are one more group
-pub with_some : (groups : List (List Entry)) (entries : List Entry) → 1 ≤ length entries
-    → with_group groups entries ≡ groups ++ entries ∷ []
-with_some groups [] some = absurd (omega arith)
-with_some groups (e ∷ entries) some = refl
 
 -- ---- entries
 
@@ -117,7 +130,7 @@ length-body (e ∷ entries) = omega (
 )
 
 -- so many of a list, or all where there are fewer
-pub take_fewer : {X : Type 0} (xs : List X) (n : ℕ) → take n xs ≡ take (min n (length xs)) xs
+take_fewer : {X : Type 0} (xs : List X) (n : ℕ) → take n xs ≡ take (min n (length xs)) xs
 take_fewer xs n = elim (cases_lt n (length xs)) [
   | inl lt ↦ ap (λ k. take k xs) (omega arith)
   | inr ge ↦ all xs n ge ∙ sym (take-length xs) ∙ ap (λ k. take k xs) (omega arith)
@@ -132,77 +145,87 @@ take_fewer xs n = elim (cases_lt n (length xs)) [
 -- ---- the buffer
 
 -- a part of a buffer that has so many of its entries
-module _ (items : List ℕ) (start end k : ℕ) (entries : List Entry) (each : AllByRecursion HasSpelling entries)
-    (text : drop start items ≡ body_text entries ++ 0 ∷ []) (order : start ≤ end) (inside : end < length items)
-    (few : k ≤ length entries) (rest : drop end items ≡ body_text (drop k entries) ++ 0 ∷ []) where
+module _ (buffer : List ℕ) (start end most k : ℕ) (entries : List Entry) (each : AllByRecursion HasSpelling entries)
+    (text : drop start buffer ≡ body_text entries ++ 0 ∷ []) (order : start ≤ end) (inside : end < length buffer)
+    (some : 1 ≤ k) (count : k ≡ min most (length entries))
+    (rest : drop end buffer ≡ body_text (drop k entries) ++ 0 ∷ []) where
   split : body_text entries ≡ body_text (take k entries) ++ body_text (drop k entries)
   split = ap body_text (sym (take-append-drop k entries)) ∙ flat_map-append entry_text (take k entries) (drop k entries)
 
-  pub span : end - start ≡ length (body_text (take k entries))
+  span : end - start ≡ length (body_text (take k entries))
   span = omega (
     arith,
     ap length text,
     ap length rest,
-    length-drop start items,
-    length-drop end items,
+    length-drop start buffer,
+    length-drop end buffer,
     length-append (body_text entries) (0 ∷ []),
     length-append (body_text (drop k entries)) (0 ∷ []),
     ap length split,
     length-append (body_text (take k entries)) (body_text (drop k entries)),
   )
 
-  pub total : length (body_text entries) ≡ (end - start) + length (body_text (drop k entries))
-  total = ap length split ∙ length-append (body_text (take k entries)) (body_text (drop k entries)) ∙ ap
-      (λ n. n + length (body_text (drop k entries))) (sym span)
-
-  taken : length (take k entries) ≡ k
-  taken = omega (arith, length-take k entries)
-
-  pub many : 12 * k ≤ end - start
-  many = omega (arith, span, length-body (take k entries), taken)
-
-  part : take (end - start) (drop start items) ≡ body_text (take k entries)
+  part : take (end - start) (drop start buffer) ≡ body_text (take k entries)
   part =
       ap (take (end - start)) (text ∙ ap (λ t. t ++ 0 ∷ []) split ∙ append_assoc (body_text (take k entries))
       (body_text (drop k entries)) (0 ∷ []))
       ∙ take_at (body_text (take k entries)) (body_text (drop k entries) ++ 0 ∷ []) (end - start) (sym span)
 
+  taken : length (take k entries) ≡ k
+  taken = omega (arith, length-take k entries, count)
+
+  same : take k entries ≡ take most entries
+  same = ap (λ n. take n entries) count ∙ sym (take_fewer entries most)
+
   -- it spells them as a group
-  pub spells : 1 ≤ k → end - start < 2 ^ 64 → SpellsGroup (part_text items start end) (take k entries)
-  spells some small = record {
+  spelled : end < 2 ^ 64 → SpellsGroup (part_text buffer start end) (take k entries)
+  spelled small = record {
     group = record {
-      some = omega (arith, taken);
+      some = omega (arith, taken, some);
       each = all-take HasSpelling entries k each;
       fits =
-          omega (arith, span);
+          omega (arith, span, small);
     };
     text = ap (λ t. be64 (end - start) ++ (t ++ 0 ∷ [])) part ∙ ap
         (λ n. be64 n ++ (body_text (take k entries) ++ 0 ∷ [])) span;
   }
 
-  -- and the gate behind it stands there
-  pub gate_is : (gate : ℕ) → gate + (9 + (end - start)) ≡ gate_behind gate (take k entries)
-  gate_is gate = omega (
+  -- of so many bytes
+  size : 9 + (end - start) ≡ length (group_text (take k entries))
+  size = omega (
     arith,
     span,
-    length-append (be64 (length (body_text (take k entries))))
-        (body_text (take k entries)),
+    length-append (be64 (length (body_text (take k entries)))) (body_text (take k entries)),
     length-be64 (length (body_text (take k entries))),
   )
 
--- the buffer once a part was sealed
-module _ (v : Vec ℕ Global) (ws : List ℕ) (start waiting sealed gate spare end k : ℕ) (entries : List Entry)
-    (buffered : IsBuffered v start waiting sealed gate spare entries) (long : length ws ≡ length v.items)
-    (same : drop start ws ≡ drop start v.items) (order : start ≤ end) (inside : end < length v.items) (some_k : 1 ≤ k)
-    (few : k ≤ waiting) (rest : drop end v.items ≡ body_text (drop k entries) ++ 0 ∷ []) where
+  -- it has the oldest of them
+  pub is_oldest : end < 2 ^ 64 → IsOldest buffer entries start most k end
+  is_oldest small = record {
+    order = order;
+    inside = inside;
+    some = some;
+    many = omega (arith, span, length-body (take k entries), taken);
+    spelled = subst (SpellsGroup (part_text buffer start end)) same (spelled small);
+    size = size ∙ ap (λ es. length (group_text es)) same;
+    all = ap length split ∙ length-append (body_text (take k entries)) (body_text (drop k entries)) ∙ ap
+        (λ n. n + length (body_text (drop k entries))) (sym span);
+    rest = rest;
+  }
+
+-- the buffer once a part was sealed, by a write over its bytes
+module _ (v : Vec ℕ Global) (xs ws : List ℕ) (start waiting sealed gate spare end most k : ℕ) (entries : List Entry)
+    (buffered : IsBuffered v start waiting sealed gate spare entries) (value : xs ≡ v.items)
+    (long : length ws ≡ length xs) (same : drop start ws ≡ drop start xs)
+    (part : IsOldest xs entries start most k end) where
   items_are : (with_items v ws).items ≡ ws
-  items_are = with_items_is v ws (long ∙ sym v.ok.0)
+  items_are = with_items_is v ws (long ∙ ap length value ∙ sym v.ok.0)
 
   now_text : drop end (with_items v ws).items ≡ body_text (drop k entries) ++ 0 ∷ []
   now_text =
-      let back : start + (end - start) ≡ end = omega arith in
+      let back : start + (end - start) ≡ end = omega (arith, part.order) in
       ap (drop end) items_are ∙ ap (λ n. drop n ws) (sym back) ∙ sym (drop-drop (end - start) start ws) ∙ ap
-      (drop (end - start)) same ∙ drop-drop (end - start) start v.items ∙ ap (λ n. drop n v.items) back ∙ rest
+      (drop (end - start)) same ∙ drop-drop (end - start) start xs ∙ ap (λ n. drop n xs) back ∙ part.rest
 
   left : waiting - k ≡ length (drop k entries)
   left = omega (arith, length-drop k entries, buffered.count)
@@ -218,19 +241,11 @@ module _ (v : Vec ℕ Global) (ws : List ℕ) (start waiting sealed gate spare e
         each = all-drop HasSpelling entries k buffered.each;
         count = sym left;
         text = now_text;
-        header = omega (arith, buffered.header);
+        header = omega (arith, buffered.header, part.order);
         room = buffered.room;
-        limit = omega (arith, buffered.limit, sum, some, some_k);
-        fewer = omega (arith, buffered.fewer, some);
+        limit = omega (arith, buffered.limit, part.all, part.many, part.some);
+        fewer = omega (arith, buffered.fewer, part.many);
       })
-    where
-      sum : length (body_text entries) ≡ (end - start) + length (body_text (drop k entries))
-      sum = total v.items start end k entries buffered.each buffered.text order inside (omega (arith, buffered.count))
-          rest
-
-      some : 12 * k ≤ end - start
-      some = many v.items start end k entries buffered.each buffered.text order inside (omega (arith, buffered.count))
-          rest
 
 -- the buffer once an entry was appended
 module _ (v w : Vec ℕ Global) (start waiting sealed gate spare : ℕ) (entries : List Entry)
@@ -267,7 +282,7 @@ module _ (v w : Vec ℕ Global) (start waiting sealed gate spare : ℕ) (entries
       start_length
 
   after_each : AllByRecursion HasSpelling (entries ++ e ∷ [])
-  after_each = all-append HasSpelling entries (e ∷ []) buffered.each (spelled, tt)
+  after_each = all_append HasSpelling entries (e ∷ []) buffered.each (spelled, tt)
 
   after_count : waiting + 1 ≡ length (entries ++ e ∷ [])
   after_count = omega (arith, length-append entries (e ∷ []), buffered.count)

@@ -13,9 +13,10 @@ use Rattle.fp_site.proofs.Frames.{only_with}
 use Rattle.log_format.proofs.Fields.{length-be32}
 use Rattle.log_groups.specs.Images.{IsLog, IsAtRest, IsShut, IsShutGate, HasNoFront, IsOldOrShut, IsOldOrMade, IsBeforeOrShut, IsBeforeOrMade, IsSameOrShut, IsSameOrMade}
 use Rattle.log_groups.specs.inside.Images.{IsGated, IsOpened}
-use Rattle.log_groups.proofs.LogImages.{head_is, log_of}
+use Rattle.log_groups.proofs.LogImages.{log_of}
 use Rattle.gated_write.specs.Gates.{IsGatedImage}
 use Rattle.gated_write.specs.Gates as gates
+use Rattle.plain_laws.proofs.Lists.{head_is}
 
 -- ---- fronts
 

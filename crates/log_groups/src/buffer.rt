@@ -3,15 +3,16 @@ ghost use Rattle.fp_model.specs.Spellings.{be64};
 ghost use Rattle.fp_site.specs.Disk.{Disk, IsDurable, Settles};
 ghost use Rattle.fp_site.specs.Moments.{OnlyOn, Through};
 ghost use Rattle.fp_site.specs.Site.{ReadsNothing};
+ghost use Rattle.fp_lists.specs.Continued.{IsContinued};
 ghost use Rattle.fp_lists.specs.Faults.{Counts};
 ghost use Rattle.gated_write.specs.Gates.{IsGatedImage};
 ghost use Rattle.log_groups.specs.Images.{HasFrontOf, IsFrontOf};
 ghost use Rattle.log_groups.specs.inside.Images.{IsGated, IsOpened};
 ghost use Rattle.fp_model.specs.LogText.{FitsEntry, HasSpelling, KeepsRules, body_text, entry_text};
 ghost use Rattle.fp_model.specs.declared.log.Entry.{Entry as EntryOf};
-ghost use Rattle.log_groups.specs.inside.Log.{HasEntries, part_text};
+ghost use Rattle.log_groups.specs.inside.Log.{HasEntries, IsOldest, part_text};
 ghost use Rattle.std.specs.List.{AllByRecursion};
-ghost use Rattle.std.specs.Prelude.{◌≡◌, ◌⊎◌, ◌+◌, ◌-◌, ◌<◌, ◌≤◌, ◌^◌, ◌∷◌, ◌++◌, ℕ, [], List as ListOf, OnOk, drop, length, slice_index, slice_set, take, vec_capacity, vec_len};
+ghost use Rattle.std.specs.Prelude.{◌≡◌, ◌⊎◌, ◌+◌, ◌-◌, ◌<◌, ◌≤◌, ◌^◌, ◌∷◌, ◌++◌, ℕ, [], List as ListOf, OnOk, drop, length, min, slice_index, slice_set, take, vec_capacity, vec_len};
 
 use crate::gated::write_gated;
 use byteorder::{BigEndian, ByteOrder};
@@ -74,9 +75,7 @@ pub(crate) fn seal_part<S: Site>(
     ensures only { S.told site.old → OnlyOn 0 (S.disk site.old) (S.disk site.new) }
     ensures reads { ReadsNothing (S.tells_reads site.old) (S.tells_reads site.new) (S.bytes_read site.old)
         (S.bytes_read site.new) }
-    ensures told { S.told site.old → S.told site.new }
-    ensures holds { S.holds site.new ≡ S.holds site.old }
-    ensures keeps { (first : S) → S.keeps first site.old → S.keeps first site.new }
+    ensures site { IsContinued S.told S.faults S.holds S.keeps site.old site.new }
 
     // A crash at any moment leaves the gate as it was, or the group whole behind it.
     ensures crash { S.told site.old → IsDurable (S.disk site.old) 0 → gate < length ((S.disk site.old).contents 0) →
@@ -125,8 +124,29 @@ fn put_number(into: &mut [u8], n: u64)
     BigEndian::write_u64(into, n);
 }
 
+// A part of the buffer: how many entries it has, and where it ends.
+pub(crate) struct Part {
+    pub(crate) count: usize,
+    pub(crate) end: usize,
+}
+
+// The part from a place on that has the oldest of so many entries: this many, or all where there are fewer.
+pub(crate) fn oldest(buffer: &[u8], start: usize, waiting: usize, most: usize) -> Part
+    requires entries { HasEntries buffer.now start waiting }
+    requires some { 1 ≤ waiting }
+    requires most { 1 ≤ most }
+    ensures count { result.count ≡ min most waiting }
+    ensures oldest { (entries : ListOf EntryOf) → AllByRecursion HasSpelling entries → length entries ≡ waiting
+        → drop start buffer.now ≡ body_text entries ++ 0 ∷ []
+        → IsOldest buffer.now entries start most result.count result.end }
+{
+    let count = most.min(waiting);
+    let end = end_of(buffer, start, count);
+    Part { count, end }
+}
+
 // Where the part that has so many of these entries ends.
-pub(crate) fn end_of(buffer: &[u8], start: usize, count: usize) -> usize
+fn end_of(buffer: &[u8], start: usize, count: usize) -> usize
     requires { HasEntries buffer.now start count }
     ensures start { start ≤ result }
     ensures inside { result < length buffer.now }

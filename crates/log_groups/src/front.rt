@@ -33,6 +33,16 @@ impl Front {
         Ok(rest)
     }
 
+    // What stands behind the gate of a new log: the front without its gate, and the first group's gate, closed.
+    pub(crate) fn behind_gate(&self, alloc: Global) -> Result<Bytes, AllocError>
+        requires { FitsFront (as_front self.now) }
+        ensures { IfOk result (λ bytes. bytes ≡ front_rest (as_front self.now) ++ 0 ∷ []) }
+    {
+        let mut bytes = self.rest(alloc, self.format)?;
+        bytes.push(0)?;
+        Ok(bytes)
+    }
+
     // The front of a format with its gate open.
     pub(crate) fn text(&self, alloc: Global, format: u8) -> Result<Bytes, AllocError>
         requires fits { FitsFront (as_front self.now) }

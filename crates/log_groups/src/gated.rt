@@ -2,6 +2,7 @@
 ghost use Rattle.fp_site.specs.Disk.{Disk, IsDurable, Settles};
 ghost use Rattle.fp_site.specs.Moments.{OnlyOn, Through};
 ghost use Rattle.fp_site.specs.Site.{ReadsNothing};
+ghost use Rattle.fp_lists.specs.Continued.{IsContinued};
 ghost use Rattle.fp_lists.specs.Faults.{Counts};
 ghost use Rattle.gated_write.specs.Gates.{IsGatedImage};
 ghost use Rattle.log_groups.specs.Images.{HasFrontOf, IsFrontOf};
@@ -24,9 +25,7 @@ pub(crate) fn write_gated<S: Site>(site: &mut S, gate: u64, bytes: &[u8]) -> Res
     ensures only { S.told site.old → OnlyOn 0 (S.disk site.old) (S.disk site.new) }
     ensures reads { ReadsNothing (S.tells_reads site.old) (S.tells_reads site.new) (S.bytes_read site.old)
         (S.bytes_read site.new) }
-    ensures told { S.told site.old → S.told site.new }
-    ensures holds { S.holds site.new ≡ S.holds site.old }
-    ensures keeps { (first : S) → S.keeps first site.old → S.keeps first site.new }
+    ensures site { IsContinued S.told S.faults S.holds S.keeps site.old site.new }
 
     // A crash at any moment leaves the gate as it was, or the bytes whole behind it.
     ensures crash { S.told site.old → IsDurable (S.disk site.old) 0 → gate < length ((S.disk site.old).contents 0) →

@@ -6,13 +6,14 @@ ghost use Rattle.fp_model.specs.declared.log.Entry.{Entry as EntryOf};
 ghost use Rattle.fp_site.specs.Disk.{Differs, Disk, IsDurable, Settles, Stays};
 ghost use Rattle.fp_site.specs.Moments.{OnlyOn, Through};
 ghost use Rattle.fp_site.specs.Site.{ReadsNothing};
+ghost use Rattle.fp_lists.specs.Continued.{IsContinued};
 ghost use Rattle.fp_lists.specs.Faults.{Counts};
 ghost use Rattle.log_groups.specs.Images.{BeginsFor, HasFrontOf, IsAtRest, IsBeforeOrAfter, IsBeforeOrMade, IsBeforeOrShut, IsFrontOf, IsKept, IsOldOrMade, IsOldOrShut, IsSameOrMade, IsSameOrShut, IsShut, IsWithOrWithout, as_front, in_format, with_group, with_group_at};
 ghost use Rattle.log_groups.specs.Reads.{HasGroup, ReadsOnlyLog};
 ghost use Rattle.log_groups.specs.declared.fault.LogFault.TheVariants as faults;
 ghost use Rattle.std.specs.Prelude.{◌≡◌, ◌≢◌, ◌⊎◌, ◌+◌, ◌-◌, ◌*◌, ◌<◌, ◌≤◌, ◌^◌, ◌∷◌, ◌++◌, ℕ, [], IfNone, IfOk, IfSome, IsErrOf, IsOk, List as ListOf, OnErr, OnOk, drop, length, max, min, slice_index, take};
 
-use crate::buffer::{add_entry, end_of, move_down, seal_part};
+use crate::buffer::{Part, add_entry, move_down, oldest, seal_part};
 use crate::group::read_group;
 use crate::opening::format_of;
 use crate::{Front, Group, LogFault, SealFault, making};
@@ -120,9 +121,7 @@ impl Log {
         ensures reads { ReadsOnlyLog (T.tells_reads site.old) (T.tells_reads site.new) (T.bytes_read site.old)
             (T.bytes_read site.new) }
         ensures few { T.tells_reads site.new 0 → T.bytes_read site.new 0 ≤ T.bytes_read site.old 0 + 1 }
-        ensures told { T.told site.old → T.told site.new }
-        ensures holds { T.holds site.new ≡ T.holds site.old }
-        ensures keeps { (first : T) → T.keeps first site.old → T.keeps first site.new }
+        ensures site { IsContinued T.told T.faults T.holds T.keeps site.old site.new }
 
         // A crash at any moment leaves the log as a sync might have left it before, or with no open front.
         ensures crash { T.told site.old → Through (T.disk site.old) (T.disk site.new)
@@ -154,7 +153,6 @@ impl Log {
             (first_gate (as_front front.now) + 1) (length ((T.disk site.old).contents 0))) }
         ensures cause { IsErrOf result faults.Failed → (T.faults site.old < T.faults site.new)
             ⊎ (T.faults site.new ≡ 2 ^ 64 - 1) }
-        ensures later { T.faults site.old ≤ T.faults site.new }
         ensures stayed { (IsErrOf result faults.Failed → ⊥) → T.faults site.new ≡ T.faults site.old }
         ensures never { (IsErrOf result faults.Foreign → ⊥)
             × ((place : ℕ) → IsErrOf result (faults.Damaged place) → ⊥) }
@@ -167,9 +165,7 @@ impl Log {
         ensures reads { ReadsOnlyLog (T.tells_reads site.old) (T.tells_reads site.new) (T.bytes_read site.old)
             (T.bytes_read site.new) }
         ensures few { T.tells_reads site.new 0 → T.bytes_read site.new 0 ≤ T.bytes_read site.old 0 + 1 }
-        ensures told { T.told site.old → T.told site.new }
-        ensures holds { T.holds site.new ≡ T.holds site.old }
-        ensures keeps { (first : T) → T.keeps first site.old → T.keeps first site.new }
+        ensures site { IsContinued T.told T.faults T.holds T.keeps site.old site.new }
 
         // A crash at any moment leaves the log as a sync might have left it before, or with no open front, or made.
         ensures crash { T.told site.old → Through (T.disk site.old) (T.disk site.new)
@@ -207,7 +203,6 @@ impl Log {
             → BeginsFor (as_front front.now) ((T.disk site.old).contents 0) → ⊥ }
         ensures cause { IsErrOf result faults.Failed → (T.faults site.old < T.faults site.new)
             ⊎ (T.faults site.new ≡ 2 ^ 64 - 1) }
-        ensures later { T.faults site.old ≤ T.faults site.new }
         ensures stayed { (IsErrOf result faults.Failed → ⊥) → T.faults site.new ≡ T.faults site.old }
         ensures never { (place : ℕ) → IsErrOf result (faults.Damaged place) → ⊥ }
 
@@ -221,9 +216,7 @@ impl Log {
         ensures stays { T.told site.old → Stays (T.disk site.old) (T.disk site.new) }
         ensures reads { ReadsOnlyLog (T.tells_reads site.old) (T.tells_reads site.new) (T.bytes_read site.old)
             (T.bytes_read site.new) }
-        ensures told { T.told site.old → T.told site.new }
-        ensures holds { T.holds site.new ≡ T.holds site.old }
-        ensures keeps { (first : T) → T.keeps first site.old → T.keeps first site.new }
+        ensures site { IsContinued T.told T.faults T.holds T.keeps site.old site.new }
     {
         let Some(format) = format_of(alloc, site, front)? else {
             return Err(LogFault::Foreign);
@@ -253,7 +246,6 @@ impl Log {
             (place ≡ at) × IsDamaged ((T.disk site.old).contents 0) at }
         ensures cause { IsErrOf result faults.Failed → (T.faults site.old < T.faults site.new)
             ⊎ (T.faults site.new ≡ 2 ^ 64 - 1) }
-        ensures later { T.faults site.old ≤ T.faults site.new }
         ensures stayed { (IsErrOf result faults.Failed → ⊥) → T.faults site.new ≡ T.faults site.old }
         ensures never { IsErrOf result faults.Foreign → ⊥ }
 
@@ -277,9 +269,7 @@ impl Log {
         ensures stays { T.told site.old → Stays (T.disk site.old) (T.disk site.new) }
         ensures reads { ReadsOnlyLog (T.tells_reads site.old) (T.tells_reads site.new) (T.bytes_read site.old)
             (T.bytes_read site.new) }
-        ensures told { T.told site.old → T.told site.new }
-        ensures holds { T.holds site.new ≡ T.holds site.old }
-        ensures keeps { (first : T) → T.keeps first site.old → T.keeps first site.new }
+        ensures site { IsContinued T.told T.faults T.holds T.keeps site.old site.new }
     {
         read_group(*self.buffer.allocator(), site, at)
     }
@@ -409,9 +399,7 @@ impl Log {
         ensures only { T.told site.old → OnlyOn 0 (T.disk site.old) (T.disk site.new) }
         ensures reads { ReadsNothing (T.tells_reads site.old) (T.tells_reads site.new) (T.bytes_read site.old)
             (T.bytes_read site.new) }
-        ensures told { T.told site.old → T.told site.new }
-        ensures holds { T.holds site.new ≡ T.holds site.old }
-        ensures keeps { (first : T) → T.keeps first site.old → T.keeps first site.new }
+        ensures site { IsContinued T.told T.faults T.holds T.keeps site.old site.new }
 
         // A crash at any moment leaves the groups from before, or with the new one whole.
         ensures crash { (front : FrontOf) (groups : ListOf (ListOf EntryOf))
@@ -440,9 +428,9 @@ impl Log {
         if self.waiting == 0 {
             return Ok(0);
         }
-        let count = (most as usize).min(self.waiting);
-        let end = end_of(&self.buffer, self.start, count);
-        seal_part(site, self.gate, &mut self.buffer, self.start, end)?;
+        let buffer = self.buffer.as_mut_slice();
+        let Part { count, end } = oldest(buffer, self.start, self.waiting, most as usize);
+        seal_part(site, self.gate, buffer, self.start, end)?;
         self.sealed += count as u64;
         self.gate += 9 + (end - self.start) as u64;
         self.start = end;

@@ -2,6 +2,7 @@
 ghost use Rattle.fp_model.specs.LogText.{FitsFront, first_gate, log_text};
 ghost use Rattle.fp_site.specs.Disk.{Disk, Settles};
 ghost use Rattle.fp_site.specs.Moments.{OnlyOn, Through};
+ghost use Rattle.fp_lists.specs.Continued.{IsContinued};
 ghost use Rattle.fp_lists.specs.Faults.{Counts};
 ghost use Rattle.log_groups.specs.Images.{IsAtRest, IsBeforeOrMade, IsBeforeOrShut, IsOldOrMade, IsOldOrShut, IsShut, as_front};
 ghost use Rattle.log_groups.specs.Reads.{ReadsOnlyLog};
@@ -25,9 +26,7 @@ pub(crate) fn shut<S: Site>(site: &mut S) -> Result<(), Failed>
     ensures reads { ReadsOnlyLog (S.tells_reads site.old) (S.tells_reads site.new) (S.bytes_read site.old)
         (S.bytes_read site.new) }
     ensures few { S.tells_reads site.new 0 → S.bytes_read site.new 0 ≤ S.bytes_read site.old 0 + 1 }
-    ensures told { S.told site.old → S.told site.new }
-    ensures holds { S.holds site.new ≡ S.holds site.old }
-    ensures keeps { (first : S) → S.keeps first site.old → S.keeps first site.new }
+    ensures site { IsContinued S.told S.faults S.holds S.keeps site.old site.new }
 
     // A crash at any moment leaves the log as a sync might have left it before, or shut.
     ensures crash { S.told site.old → Through (S.disk site.old) (S.disk site.new) (IsBeforeOrShut (S.disk site.old)) }
@@ -53,7 +52,6 @@ pub(crate) fn make<S: Site>(alloc: Global, site: &mut S, front: &Front) -> Resul
         (first_gate (as_front front.now) + 1) (length ((S.disk site.old).contents 0))) }
     ensures cause { IsErrOf result faults.Failed → (S.faults site.old < S.faults site.new)
         ⊎ (S.faults site.new ≡ 2 ^ 64 - 1) }
-    ensures later { S.faults site.old ≤ S.faults site.new }
     ensures stayed { (IsErrOf result faults.Failed → ⊥) → S.faults site.new ≡ S.faults site.old }
     ensures never { (IsErrOf result faults.Foreign → ⊥) × ((place : ℕ) → IsErrOf result (faults.Damaged place) → ⊥) }
 
@@ -65,9 +63,7 @@ pub(crate) fn make<S: Site>(alloc: Global, site: &mut S, front: &Front) -> Resul
     ensures reads { ReadsOnlyLog (S.tells_reads site.old) (S.tells_reads site.new) (S.bytes_read site.old)
         (S.bytes_read site.new) }
     ensures few { S.tells_reads site.new 0 → S.bytes_read site.new 0 ≤ S.bytes_read site.old 0 + 1 }
-    ensures told { S.told site.old → S.told site.new }
-    ensures holds { S.holds site.new ≡ S.holds site.old }
-    ensures keeps { (first : S) → S.keeps first site.old → S.keeps first site.new }
+    ensures site { IsContinued S.told S.faults S.holds S.keeps site.old site.new }
 
     // A crash at any moment leaves the log as a sync might have left it before, or shut, or made.
     ensures crash { S.told site.old → Through (S.disk site.old) (S.disk site.new)
@@ -77,8 +73,7 @@ pub(crate) fn make<S: Site>(alloc: Global, site: &mut S, front: &Front) -> Resul
     ensures settles { (image : ListOf ℕ) → S.told site.old → Settles (S.disk site.new) 0 image
         → IsOldOrMade (S.disk site.old) (as_front front.now) image }
 {
-    let mut bytes = front.rest(alloc, front.format)?;
-    bytes.push(0)?;
+    let bytes = front.behind_gate(alloc)?;
     shut(site)?;
     write_gated(site, 0, bytes.as_slice())?;
     Ok(())

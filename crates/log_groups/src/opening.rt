@@ -1,5 +1,6 @@
 //! Comparing a log's front.
 ghost use Rattle.fp_model.specs.LogText.{FitsFront, IsFormat, StartsWithFront, first_gate};
+ghost use Rattle.fp_lists.specs.Continued.{IsContinued};
 ghost use Rattle.fp_site.specs.Disk.{Disk, Stays};
 ghost use Rattle.log_groups.specs.Images.{BeginsFor, as_front, in_format};
 ghost use Rattle.log_groups.specs.Reads.{ReadsOnlyLog};
@@ -26,7 +27,6 @@ pub(crate) fn format_of<S: Site>(
         (BeginsFor (as_front front.now) ((S.disk site.old).contents 0) → ⊥)) }
     ensures cause { IsErrOf result faults.Failed → (S.faults site.old < S.faults site.new)
         ⊎ (S.faults site.new ≡ 2 ^ 64 - 1) }
-    ensures later { S.faults site.old ≤ S.faults site.new }
     ensures stayed { (IsErrOf result faults.Failed → ⊥) → S.faults site.new ≡ S.faults site.old }
     ensures never { (IsErrOf result faults.Foreign → ⊥) × ((place : ℕ) → IsErrOf result (faults.Damaged place) → ⊥) }
 
@@ -40,9 +40,7 @@ pub(crate) fn format_of<S: Site>(
     ensures stays { S.told site.old → Stays (S.disk site.old) (S.disk site.new) }
     ensures reads { ReadsOnlyLog (S.tells_reads site.old) (S.tells_reads site.new) (S.bytes_read site.old)
         (S.bytes_read site.new) }
-    ensures told { S.told site.old → S.told site.new }
-    ensures holds { S.holds site.new ≡ S.holds site.old }
-    ensures keeps { (first : S) → S.keeps first site.old → S.keeps first site.new }
+    ensures site { IsContinued S.told S.faults S.holds S.keeps site.old site.new }
 {
     let first = front.text(alloc, 1)?;
     let second = front.text(alloc, 2)?;
@@ -60,7 +58,6 @@ fn first_bytes<S: Site>(alloc: Global, site: &mut S, len: u64) -> Result<Option<
         (length ((S.disk site.old).contents 0) < len)) }
     ensures cause { IsErrOf result faults.Failed → (S.faults site.old < S.faults site.new)
         ⊎ (S.faults site.new ≡ 2 ^ 64 - 1) }
-    ensures later { S.faults site.old ≤ S.faults site.new }
     ensures stayed { (IsErrOf result faults.Failed → ⊥) → S.faults site.new ≡ S.faults site.old }
     ensures never { (IsErrOf result faults.Foreign → ⊥) × ((place : ℕ) → IsErrOf result (faults.Damaged place) → ⊥) }
 
@@ -73,9 +70,7 @@ fn first_bytes<S: Site>(alloc: Global, site: &mut S, len: u64) -> Result<Option<
     ensures stays { S.told site.old → Stays (S.disk site.old) (S.disk site.new) }
     ensures reads { ReadsOnlyLog (S.tells_reads site.old) (S.tells_reads site.new) (S.bytes_read site.old)
         (S.bytes_read site.new) }
-    ensures told { S.told site.old → S.told site.new }
-    ensures holds { S.holds site.new ≡ S.holds site.old }
-    ensures keeps { (first : S) → S.keeps first site.old → S.keeps first site.new }
+    ensures site { IsContinued S.told S.faults S.holds S.keeps site.old site.new }
 {
     if site.size(0)? < len {
         return Ok(None);

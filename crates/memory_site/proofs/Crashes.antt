@@ -4,7 +4,7 @@ use Rattle.std.specs.Prelude.{◌==◌, if◌then◌else◌, Ok, Err, is_err}
 use Rattle.std.proofs.lemmas.Bool.{cases_eq, cases_lt}
 use Rattle.std.proofs.lemmas.List.{ext_get_or, take-take, take_all, length-take}
 use Rattle.std.proofs.Math.Seq.{take-length}
-use Rattle.fp_site.specs.Disk.{Snapshot, Disk, IsDurable, Broken, Leaves, written, Torn, Differs, Settles, Sends, Elapses, covers}
+use Rattle.fp_site.specs.Disk.{Snapshot, IsDurable, Broken, Leaves, written, Torn, Differs, Settles, Sends, Elapses, covers}
 use Rattle.memory_site.specs.History.{Event, History, Image, MayLeave, MayLeaveWithin, LeftSince, contents_after, synced_after, is_touched, longest_end, sent_after, disk_of}
 use Rattle.memory_site.specs.History.Event.{Opened, Wrote, Synced, Sent}
 use Rattle.memory_site.specs.inside.Past.{Breaks}
@@ -12,6 +12,7 @@ use Rattle.fp_site.specs.Written.{length-written, written_other}
 use Rattle.memory_site.specs.Laws.{outside, same_set, other_set, contents_image}
 use Rattle.fp_site.proofs.Runs.{elapses_weaker}
 use Rattle.memory_site.proofs.Untorn.{untorn, untorn_shorter, untorn_longer, untorn_kept, is_torn}
+use Rattle.fp_site.proofs.Images.{settles_left}
 
 -- a prefix of a prefix
 take-take_min : (n m : ℕ) (xs : List ℕ) → take n (take m xs) ≡ take (min n m) xs
@@ -149,15 +150,6 @@ wrote h set at bytes = one_more h (Wrote set at bytes) (Differs (disk_of h) set 
         (λ k ne. other_was_wrote h set k at bytes (s.images k) ne (now.images k)) now.sent
         (is_torn (synced_after h set) (is_touched h set) (longest_end h set) at n c im.no_shorter longer kept)
 
--- what every crash leaves alike, this one does
-settles_one : (old : Disk) (set : ℕ) (c : Snapshot) → old.may_leave c → Settles old set (c.images set)
-settles_one old set c left = record {
-  bytes = λ i byte each. each c left;
-  no_shorter =
-      λ n each. each c left;
-  no_longer = λ n each. each c left;
-}
-
 -- after a sync a crash leaves what a read gives
 pub synced_is : (h : History) (set : ℕ) (c : List ℕ) → Image (Synced set ∷ h) set c → c ≡ contents_after h set
 synced_is h set c im =
@@ -193,7 +185,7 @@ synced h set = one_more h (Synced set) (Differs (disk_of h) set (λ _ image. Set
     here s now = record {
       before = s;
       left = left s now;
-      this = settles_one (disk_of h) set s (left s now);
+      this = settles_left (disk_of h) set s (left s now);
       others =
           λ k ne. refl;
       sent = λ told. refl;

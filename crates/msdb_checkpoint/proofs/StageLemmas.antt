@@ -1,5 +1,5 @@
 -- What a gated write leaves, as a checkpoint that is old, closed or whole.
-use Rattle.std.proofs.Common.{◌≡◌, inl, inr, ℕ, ◌+◌, ◌-◌, ◌<◌, ◌≤◌, List, ◌∷◌, ◌++◌, length, min, take, drop, Option, Some, None, sym, ◌∙◌, ap, subst, arith}
+use Rattle.std.proofs.Common.{◌≡◌, inl, inr, ℕ, ◌+◌, ◌-◌, ◌<◌, ◌≤◌, List, ◌∷◌, ◌++◌, length, min, take, drop, Option, Some, sym, ◌∙◌, ap, subst, arith}
 use Rattle.std.specs.Prelude.{slice_index}
 use Rattle.std.proofs.lemmas.Bool.{cases_eq, cases_lt}
 use Rattle.std.proofs.lemmas.List.{drop-take, take-append-drop, take-take, take_all, length-append, length-drop, length-take}
@@ -9,9 +9,9 @@ use Rattle.gated_write.proofs.Bodies.{begins}
 use Rattle.fp_site.specs.Moments.{Through}
 use Rattle.msdb_checkpoint.specs.Steps.{IsAt, IsOldClosedOrWhole, IsSure, IsUnderWay, StandsOn, Turn, other_set}
 use Rattle.msdb_checkpoint.specs.declared.stages.UnderWay.{UnderWay}
-use Rattle.log_format.proofs.Fields.{some_is}
 use Rattle.msdb_checkpoint.specs.declared.stages.Stage.{Stage}
 use Rattle.msdb_checkpoint.specs.declared.stages.Stage.TheVariants.{Begun, Written, Synced}
+use Rattle.std.proofs.lemmas.Option.{same_Some}
 
 -- where the gate was closed it stays so until it is opened
 pub closed_unopened : (old image : List ℕ) → IsClosed 0 old → IsUnopened old 0 image → IsClosed 0 image
@@ -85,10 +85,7 @@ pub same_body : (set number : ℕ) (o : Option UnderWay) (turn : Turn) (u w : Un
     → record { set = set; number = number; under_way = o } ≡ turn → o ≡ Some w → turn.under_way ≡ Some u
     → w.body ≡ u.body
 same_body set number o turn u w view is was =
-    ap (λ (v : UnderWay). v.body) (some_is w u (sym is ∙ ap (λ (t : Turn). t.under_way) view ∙ was))
-
-pub some_is_not_none : {A : Type 0} (x : A) → None ≡ Some x → ⊥
-some_is_not_none x e = cc
+    ap (λ (v : UnderWay). v.body) (same_Some w u (sym is ∙ ap (λ (t : Turn). t.under_way) view ∙ was))
 
 pub moved : (d new : Disk) (set turned : ℕ) (body given : List ℕ) → set ≡ turned → body ≡ given
     → Through d new (λ s. IsOldClosedOrWhole d (other_set set) body (s.images (other_set set)))

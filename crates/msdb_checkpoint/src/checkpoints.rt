@@ -4,6 +4,7 @@ ghost use Rattle.checkpoint_format.specs.Given.{terminals_of};
 ghost use Rattle.fp_model.specs.CheckpointText.{AreLasts};
 ghost use Rattle.fp_site.specs.Disk.{Disk, IsDurable, Settles};
 ghost use Rattle.fp_site.specs.Moments.{OnlyOn, Through};
+ghost use Rattle.fp_lists.specs.Continued.{IsContinued};
 ghost use Rattle.fp_lists.specs.Faults.{Counts};
 ghost use Rattle.gated_write.specs.Gates.{ReadsOnly};
 ghost use Rattle.msdb_checkpoint.specs.Given.{body_with};
@@ -163,9 +164,7 @@ impl Checkpoints {
         ensures only { S.told site.old → OnlyOn (other_set self.old.set) (S.disk site.old) (S.disk site.new) }
         ensures reads { ReadsOnly (other_set self.old.set) (S.tells_reads site.old) (S.tells_reads site.new)
             (S.bytes_read site.old) (S.bytes_read site.new) }
-        ensures told { S.told site.old → S.told site.new }
-        ensures holds { S.holds site.new ≡ S.holds site.old }
-        ensures keeps { (first : S) → S.keeps first site.old → S.keeps first site.new }
+        ensures site { IsContinued S.told S.faults S.holds S.keeps site.old site.new }
 
         // At every moment the newest sure one is as it was,
         ensures newest { S.told site.old → IsDurable (S.disk site.old) self.old.set →
@@ -219,9 +218,7 @@ impl Checkpoints {
         ensures only { S.told site.old → OnlyOn (other_set self.old.set) (S.disk site.old) (S.disk site.new) }
         ensures reads { ReadsOnly (other_set self.old.set) (S.tells_reads site.old) (S.tells_reads site.new)
             (S.bytes_read site.old) (S.bytes_read site.new) }
-        ensures told { S.told site.old → S.told site.new }
-        ensures holds { S.holds site.new ≡ S.holds site.old }
-        ensures keeps { (first : S) → S.keeps first site.old → S.keeps first site.new }
+        ensures site { IsContinued S.told S.faults S.holds S.keeps site.old site.new }
 
         // At every moment the newest sure one is as it was,
         ensures newest { S.told site.old → IsDurable (S.disk site.old) self.old.set →
@@ -279,7 +276,6 @@ impl Checkpoints {
         ensures unchanged { IsErrOf result faults.Memory → self.new ≡ self.old }
         ensures cause { IsErrOf result faults.Failed → (S.faults site.old < S.faults site.new)
             ⊎ (S.faults site.new ≡ 2 ^ 64 - 1) }
-        ensures later { S.faults site.old ≤ S.faults site.new }
         ensures never { (set : ℕ) → IsErrOf result (faults.Damaged set) → ⊥ }
 
         // Want of memory comes before the site is touched.
@@ -287,9 +283,7 @@ impl Checkpoints {
         ensures only { S.told site.old → OnlyOn (other_set self.old.set) (S.disk site.old) (S.disk site.new) }
         ensures reads { ReadsOnly (other_set self.old.set) (S.tells_reads site.old) (S.tells_reads site.new)
             (S.bytes_read site.old) (S.bytes_read site.new) }
-        ensures told { S.told site.old → S.told site.new }
-        ensures holds { S.holds site.new ≡ S.holds site.old }
-        ensures keeps { (first : S) → S.keeps first site.old → S.keeps first site.new }
+        ensures site { IsContinued S.told S.faults S.holds S.keeps site.old site.new }
 
         // At every moment the newest sure one is as it was,
         ensures newest { S.told site.old → IsDurable (S.disk site.old) self.old.set →

@@ -1,6 +1,7 @@
 //! Reading the newest checkpoint.
 ghost use Rattle.fp_model.specs.CheckpointText.{IsOpen};
 ghost use Rattle.fp_site.specs.Disk.{Disk, Stays, read_range};
+ghost use Rattle.fp_lists.specs.Continued.{IsContinued};
 ghost use Rattle.fp_lists.specs.Faults.{Counts};
 ghost use Rattle.gated_write.specs.Gates.{ReadsOnly};
 ghost use Rattle.msdb_checkpoint.specs.Newest.{HasBadHead, HasCheckpoint, HasNoCheckpoint, HasNumber, IsBadSet, IsDamagedSet, IsNewest, IsNotOpen, IsWhole, ReadsCheckpoints};
@@ -29,9 +30,7 @@ fn front_of<S: Site>(site: &mut S, set: u16) -> Result<([u8; 17], bool), Failed>
     ensures reads { ReadsOnly set (S.tells_reads site.old) (S.tells_reads site.new) (S.bytes_read site.old)
         (S.bytes_read site.new) }
     ensures few { S.tells_reads site.new set → S.bytes_read site.new set ≤ S.bytes_read site.old set + 17 }
-    ensures told { S.told site.old → S.told site.new }
-    ensures holds { S.holds site.new ≡ S.holds site.old }
-    ensures keeps { (first : S) → S.keeps first site.old → S.keeps first site.new }
+    ensures site { IsContinued S.told S.faults S.holds S.keeps site.old site.new }
 {
     let size = site.size(set)?;
     let mut bytes = [0u8; 17];
@@ -49,15 +48,12 @@ fn number_in<S: Site>(site: &mut S, set: u16) -> Result<Option<u64>, CkptFault>
         → (place ≡ set) × HasBadHead ((S.disk site.old).contents set) }
     ensures cause { IsErrOf result faults.Failed → (S.faults site.old < S.faults site.new)
         ⊎ (S.faults site.new ≡ 2 ^ 64 - 1) }
-    ensures later { S.faults site.old ≤ S.faults site.new }
     ensures stayed { (IsErrOf result faults.Failed → ⊥) → S.faults site.new ≡ S.faults site.old }
     ensures stays { S.told site.old → Stays (S.disk site.old) (S.disk site.new) }
     ensures reads { ReadsOnly set (S.tells_reads site.old) (S.tells_reads site.new) (S.bytes_read site.old)
         (S.bytes_read site.new) }
     ensures few { S.tells_reads site.new set → S.bytes_read site.new set ≤ S.bytes_read site.old set + 17 }
-    ensures told { S.told site.old → S.told site.new }
-    ensures holds { S.holds site.new ≡ S.holds site.old }
-    ensures keeps { (first : S) → S.keeps first site.old → S.keeps first site.new }
+    ensures site { IsContinued S.told S.faults S.holds S.keeps site.old site.new }
 {
     let (bytes, is_whole) = front_of(site, set)?;
     if bytes[0] != 1 {
@@ -102,16 +98,13 @@ fn newest_set<S: Site>(site: &mut S) -> Result<Option<u16>, CkptFault>
         (λ _. (set : ℕ) → IsBadSet (S.disk site.old).contents set → ⊥) }
     ensures cause { IsErrOf result faults.Failed → (S.faults site.old < S.faults site.new)
         ⊎ (S.faults site.new ≡ 2 ^ 64 - 1) }
-    ensures later { S.faults site.old ≤ S.faults site.new }
     ensures stayed { (IsErrOf result faults.Failed → ⊥) → S.faults site.new ≡ S.faults site.old }
     ensures stays { S.told site.old → Stays (S.disk site.old) (S.disk site.new) }
     ensures reads { ReadsCheckpoints (S.tells_reads site.old) (S.tells_reads site.new) (S.bytes_read site.old)
         (S.bytes_read site.new) }
     ensures few { (set : ℕ) → S.tells_reads site.new set → S.bytes_read site.new set
         ≤ S.bytes_read site.old set + 17 }
-    ensures told { S.told site.old → S.told site.new }
-    ensures holds { S.holds site.new ≡ S.holds site.old }
-    ensures keeps { (first : S) → S.keeps first site.old → S.keeps first site.new }
+    ensures site { IsContinued S.told S.faults S.holds S.keeps site.old site.new }
 {
     let first = number_in(site, 1)?;
     let second = number_in(site, 2)?;
@@ -124,7 +117,6 @@ fn behind_gate<S: Site>(alloc: Global, site: &mut S, set: u16) -> Result<Vec<u8>
         → IfOk result (λ bytes. bytes.items ≡ drop 1 ((S.disk site.old).contents set)) }
     ensures cause { IsErrOf result faults.Failed → (S.faults site.old < S.faults site.new)
         ⊎ (S.faults site.new ≡ 2 ^ 64 - 1) }
-    ensures later { S.faults site.old ≤ S.faults site.new }
     ensures stayed { (IsErrOf result faults.Failed → ⊥) → S.faults site.new ≡ S.faults site.old }
     ensures never { (place : ℕ) → IsErrOf result (faults.Damaged place) → ⊥ }
     ensures stays { S.told site.old → Stays (S.disk site.old) (S.disk site.new) }
@@ -132,9 +124,7 @@ fn behind_gate<S: Site>(alloc: Global, site: &mut S, set: u16) -> Result<Vec<u8>
         (S.bytes_read site.new) }
     ensures most { S.told site.old → S.tells_reads site.new set → S.bytes_read site.new set
         ≤ S.bytes_read site.old set + length ((S.disk site.old).contents set) }
-    ensures told { S.told site.old → S.told site.new }
-    ensures holds { S.holds site.new ≡ S.holds site.old }
-    ensures keeps { (first : S) → S.keeps first site.old → S.keeps first site.new }
+    ensures site { IsContinued S.told S.faults S.holds S.keeps site.old site.new }
 {
     let size = site.size(set)?;
     let mut bytes = vec![in alloc; 0u8; size.saturating_sub(1) as usize]?;
@@ -156,16 +146,13 @@ fn load<S: Site>(
         → (place ≡ set) × HasNoCheckpoint defs.now ((S.disk site.old).contents set) }
     ensures cause { IsErrOf result faults.Failed → (S.faults site.old < S.faults site.new)
         ⊎ (S.faults site.new ≡ 2 ^ 64 - 1) }
-    ensures later { S.faults site.old ≤ S.faults site.new }
     ensures stayed { (IsErrOf result faults.Failed → ⊥) → S.faults site.new ≡ S.faults site.old }
     ensures stays { S.told site.old → Stays (S.disk site.old) (S.disk site.new) }
     ensures reads { ReadsOnly set (S.tells_reads site.old) (S.tells_reads site.new) (S.bytes_read site.old)
         (S.bytes_read site.new) }
     ensures most { S.told site.old → S.tells_reads site.new set → S.bytes_read site.new set
         ≤ S.bytes_read site.old set + length ((S.disk site.old).contents set) }
-    ensures told { S.told site.old → S.told site.new }
-    ensures holds { S.holds site.new ≡ S.holds site.old }
-    ensures keeps { (first : S) → S.keeps first site.old → S.keeps first site.new }
+    ensures site { IsContinued S.told S.faults S.holds S.keeps site.old site.new }
 {
     let bytes = behind_gate(alloc, site, set)?;
     match read(alloc, defs, &bytes) {
@@ -204,7 +191,6 @@ impl Checkpoints {
         // It fails only with the site.
         ensures cause { IsErrOf result faults.Failed → (S.faults site.old < S.faults site.new)
             ⊎ (S.faults site.new ≡ 2 ^ 64 - 1) }
-        ensures later { S.faults site.old ≤ S.faults site.new }
         ensures stayed { (IsErrOf result faults.Failed → ⊥) → S.faults site.new ≡ S.faults site.old }
 
         // Nothing changes, and only the two data sets are read: 17 bytes of each at the most, and the newest once more.
@@ -215,9 +201,7 @@ impl Checkpoints {
             → S.tells_reads site.new set → S.bytes_read site.new set ≤ S.bytes_read site.old set + 17 }
         ensures most { (set : ℕ) → S.told site.old → S.tells_reads site.new set → S.bytes_read site.new set
             ≤ S.bytes_read site.old set + 17 + length ((S.disk site.old).contents set) }
-        ensures told { S.told site.old → S.told site.new }
-        ensures holds { S.holds site.new ≡ S.holds site.old }
-        ensures keeps { (first : S) → S.keeps first site.old → S.keeps first site.new }
+        ensures site { IsContinued S.told S.faults S.holds S.keeps site.old site.new }
     {
         let Some(set) = newest_set(site)? else {
             return Ok(None);
@@ -240,7 +224,6 @@ impl Checkpoints {
         // It fails only with the site.
         ensures cause { IsErrOf result faults.Failed → (S.faults site.old < S.faults site.new)
             ⊎ (S.faults site.new ≡ 2 ^ 64 - 1) }
-        ensures later { S.faults site.old ≤ S.faults site.new }
         ensures stayed { (IsErrOf result faults.Failed → ⊥) → S.faults site.new ≡ S.faults site.old }
 
         // Nothing changes, and only the two data sets are read, 17 bytes of each at the most.
@@ -249,9 +232,7 @@ impl Checkpoints {
             (S.bytes_read site.new) }
         ensures few { (set : ℕ) → S.tells_reads site.new set → S.bytes_read site.new set
             ≤ S.bytes_read site.old set + 17 }
-        ensures told { S.told site.old → S.told site.new }
-        ensures holds { S.holds site.new ≡ S.holds site.old }
-        ensures keeps { (first : S) → S.keeps first site.old → S.keeps first site.new }
+        ensures site { IsContinued S.told S.faults S.holds S.keeps site.old site.new }
     {
         match newest_set(site)? {
             Some(set) => Ok(set),

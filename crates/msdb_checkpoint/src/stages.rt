@@ -1,6 +1,7 @@
 //! The stages of a checkpoint that is written in steps.
 ghost use Rattle.fp_site.specs.Disk.{Disk, Settles};
 ghost use Rattle.fp_site.specs.Moments.{OnlyOn, Through};
+ghost use Rattle.fp_lists.specs.Continued.{IsContinued};
 ghost use Rattle.fp_lists.specs.Faults.{Counts};
 ghost use Rattle.gated_write.specs.Gates.{ReadsOnly};
 ghost use Rattle.msdb_checkpoint.specs.Steps.{IsAt, IsOldClosedOrWhole, IsSure, WritesPiece, steps_left};
@@ -44,9 +45,7 @@ fn close<S: Site>(site: &mut S, set: u16, body: &[u8]) -> Result<Option<Stage>, 
     ensures only { S.told site.old → OnlyOn set (S.disk site.old) (S.disk site.new) }
     ensures reads { ReadsOnly set (S.tells_reads site.old) (S.tells_reads site.new) (S.bytes_read site.old)
         (S.bytes_read site.new) }
-    ensures told { S.told site.old → S.told site.new }
-    ensures holds { S.holds site.new ≡ S.holds site.old }
-    ensures keeps { (first : S) → S.keeps first site.old → S.keeps first site.new }
+    ensures site { IsContinued S.told S.faults S.holds S.keeps site.old site.new }
     ensures crash { S.told site.old → 0 < length ((S.disk site.old).contents set) →
         Through (S.disk site.old) (S.disk site.new)
         (λ s. IsOldClosedOrWhole (S.disk site.old) set body.now (s.images set)) }
@@ -75,9 +74,7 @@ fn write_piece<S: Site>(
     ensures only { S.told site.old → OnlyOn set (S.disk site.old) (S.disk site.new) }
     ensures reads { ReadsOnly set (S.tells_reads site.old) (S.tells_reads site.new) (S.bytes_read site.old)
         (S.bytes_read site.new) }
-    ensures told { S.told site.old → S.told site.new }
-    ensures holds { S.holds site.new ≡ S.holds site.old }
-    ensures keeps { (first : S) → S.keeps first site.old → S.keeps first site.new }
+    ensures site { IsContinued S.told S.faults S.holds S.keeps site.old site.new }
     ensures crash { S.told site.old → IsAt body.now set (S.disk site.old) (Written count) →
         Through (S.disk site.old) (S.disk site.new)
         (λ s. IsOldClosedOrWhole (S.disk site.old) set body.now (s.images set)) }
@@ -104,9 +101,7 @@ fn sync_body<S: Site>(
     ensures only { S.told site.old → OnlyOn set (S.disk site.old) (S.disk site.new) }
     ensures reads { ReadsOnly set (S.tells_reads site.old) (S.tells_reads site.new) (S.bytes_read site.old)
         (S.bytes_read site.new) }
-    ensures told { S.told site.old → S.told site.new }
-    ensures holds { S.holds site.new ≡ S.holds site.old }
-    ensures keeps { (first : S) → S.keeps first site.old → S.keeps first site.new }
+    ensures site { IsContinued S.told S.faults S.holds S.keeps site.old site.new }
     ensures crash { S.told site.old → IsAt body.now set (S.disk site.old) (Written count) →
         Through (S.disk site.old) (S.disk site.new)
         (λ s. IsOldClosedOrWhole (S.disk site.old) set body.now (s.images set)) }
@@ -126,9 +121,7 @@ fn open_body<S: Site>(site: &mut S, set: u16, body: &[u8]) -> Result<Option<Stag
     ensures only { S.told site.old → OnlyOn set (S.disk site.old) (S.disk site.new) }
     ensures reads { ReadsOnly set (S.tells_reads site.old) (S.tells_reads site.new) (S.bytes_read site.old)
         (S.bytes_read site.new) }
-    ensures told { S.told site.old → S.told site.new }
-    ensures holds { S.holds site.new ≡ S.holds site.old }
-    ensures keeps { (first : S) → S.keeps first site.old → S.keeps first site.new }
+    ensures site { IsContinued S.told S.faults S.holds S.keeps site.old site.new }
     ensures crash { S.told site.old → IsAt body.now set (S.disk site.old) Synced →
         Through (S.disk site.old) (S.disk site.new)
         (λ s. IsOldClosedOrWhole (S.disk site.old) set body.now (s.images set)) }
@@ -158,9 +151,7 @@ pub(crate) fn advance<S: Site>(
     ensures only { S.told site.old → OnlyOn set (S.disk site.old) (S.disk site.new) }
     ensures reads { ReadsOnly set (S.tells_reads site.old) (S.tells_reads site.new) (S.bytes_read site.old)
         (S.bytes_read site.new) }
-    ensures told { S.told site.old → S.told site.new }
-    ensures holds { S.holds site.new ≡ S.holds site.old }
-    ensures keeps { (first : S) → S.keeps first site.old → S.keeps first site.new }
+    ensures site { IsContinued S.told S.faults S.holds S.keeps site.old site.new }
 
     // A crash at any moment leaves the data set as a sync might have left it before, or closed, or whole.
     ensures crash { S.told site.old → IsAt body.now set (S.disk site.old) stage →
@@ -189,9 +180,7 @@ pub(crate) fn run<S: Site>(site: &mut S, set: u16, body: &[u8], stage: Stage) ->
     ensures only { S.told site.old → OnlyOn set (S.disk site.old) (S.disk site.new) }
     ensures reads { ReadsOnly set (S.tells_reads site.old) (S.tells_reads site.new) (S.bytes_read site.old)
         (S.bytes_read site.new) }
-    ensures told { S.told site.old → S.told site.new }
-    ensures holds { S.holds site.new ≡ S.holds site.old }
-    ensures keeps { (first : S) → S.keeps first site.old → S.keeps first site.new }
+    ensures site { IsContinued S.told S.faults S.holds S.keeps site.old site.new }
     ensures crash { S.told site.old → IsAt body.now set (S.disk site.old) stage →
         Through (S.disk site.old) (S.disk site.new)
         (λ s. IsOldClosedOrWhole (S.disk site.old) set body.now (s.images set)) }

@@ -24,11 +24,13 @@ use Rattle.fp_model.specs.declared.log.Item.TheVariants.{Segment}
 use Rattle.msdb_store.specs.Settling.{has_bytes, key_in}
 use Rattle.msdb_store.specs.inside.Steps.{IsChanged, IsGiven, given_as}
 use Rattle.msdb_store.specs.Store.{IsFitSegment, IsOf, Stored, segment_in}
-use Rattle.key_order.proofs.Ascending.{not_both, same_is, stands_there}
+use Rattle.key_order.proofs.Ascending.{not_both, stands_there}
 use Rattle.msdb_store.proofs.Tables.{belongs, stored, with_room}
 use Rattle.msdb_store.proofs.Databases.{Partner, in_as, in_at, in_database, partner, with_at}
 use Rattle.fld_calls.proofs.Kept.{HasKey, has_key, list_keeps}
 use Rattle.msdb_store.proofs.Lookups.{found_has, found_is}
+use Rattle.std.proofs.lemmas.Option.{slice_get_past, slice_get_within}
+use Rattle.model_laws.proofs.Texts.{same_text_is}
 
 pub all_got : {X : Type 0} (P : X → Type 0) (xs : List X) (n : ℕ) (x : X) → AllByRecursion P xs
     → slice_get xs n ≡ Some x → P x
@@ -45,7 +47,7 @@ whole_one : (def : MsdbDef) (msdb : Msdb) (key segment : List ℕ) → IsMsdbOf 
     → segment_of def msdb key ≡ Some segment → Whole def key segment
 whole_one def msdb key segment good e = record {
   long = found_is (key_of def.fields) (λ s. length s ≡ def.length) key segment msdb.segments good.lengths e;
-  its = same_is (key_of def.fields segment) key (found_has (key_of def.fields) key segment msdb.segments e);
+  its = same_text_is (key_of def.fields segment) key (found_has (key_of def.fields) key segment msdb.segments e);
 }
 
 module _ (defs : List MsdbDef) (now : List Msdb) (of : AllZip IsMsdbOf defs now) (number : ℕ) (def : MsdbDef)
@@ -214,15 +216,10 @@ given_changed defs now of defined number key fsas segment (Err why) fit e change
 
 -- ---- places
 
-pub got_within : {X : Type 0} (xs : List X) (n : ℕ) (x : X) → slice_get xs n ≡ Some x → n < length xs
-got_within [] n x e = cc
-got_within (y ∷ ys) zero x e = omega arith
-got_within (y ∷ ys) (suc n) x e = omega (arith, got_within ys n x e)
-
 pub within_msdbs : (defs : List MsdbDef) (msdbs : List Msdb) (n : ℕ) (def : MsdbDef) → AllZip IsMsdbOf defs msdbs
     → slice_get defs n ≡ Some def → n < length msdbs
 within_msdbs defs msdbs n def of there = let p = partner IsMsdbOf defs msdbs n def of there in
-    got_within msdbs n p.y p.there
+    slice_get_within msdbs n p.y p.there
 
 pub key_by : (defs : List MsdbDef) (n : ℕ) (def : MsdbDef) (bytes : List ℕ) → slice_get defs n ≡ Some def
     → key_in defs n bytes ≡ key_of def.fields bytes
@@ -242,16 +239,11 @@ call_within defs msdbs (Repl number bytes) of fit = within_msdbs defs msdbs numb
 call_within defs msdbs (Isrt number bytes) of fit = within_msdbs defs msdbs number fit.0 of fit.1
 call_within defs msdbs (Dlet number key) of fit = within_msdbs defs msdbs number fit.0 of fit.1
 
-get_past : {X : Type 0} (xs : List X) (n : ℕ) → length xs ≤ n → slice_get xs n ≡ None
-get_past [] n past = refl
-get_past (x ∷ xs) zero past = absurd (omega (arith, past))
-get_past (x ∷ xs) (suc n) past = get_past xs n (omega (arith, past))
-
 -- a database that isn't there has no segment
 pub none_past : (defs : List MsdbDef) (msdbs : List Msdb) (n : ℕ) (key : List ℕ) → length msdbs ≤ n
     → segment_in defs msdbs n key ≡ None
 none_past defs msdbs n key past = in_as defs msdbs n key ∙ ap (in_database defs key (slice_get defs n))
-    (get_past msdbs n past) ∙ by (slice_get defs n)
+    (slice_get_past msdbs n past) ∙ by (slice_get defs n)
   where
     by : (d : Option MsdbDef) → in_database defs key d None ≡ None
     by None = refl

@@ -14,32 +14,11 @@ use Rattle.msdb_store.specs.Store.{IsFitSegment, segment_in}
 use Rattle.msdb_store.specs.inside.Touches.{made}
 use Rattle.key_order.proofs.Ascending.{differ}
 use Rattle.msdb_store.proofs.Lookups.{find_dropped, find_put, same_list}
-use Rattle.msdb_store.proofs.Tables.{with_good, without_good}
+use Rattle.plain_laws.proofs.Alls.{each_set}
+use Rattle.plain_laws.proofs.Places.{set_elsewhere, set_here}
+use Rattle.state_laws.proofs.Settling.{with_good, without_good}
 
 -- ---- places in a list
-
-set_here : {X : Type 0} (xs : List X) (n : ℕ) (old x : X) → slice_get xs n ≡ Some old
-    → slice_get (slice_set xs n x) n ≡ Some x
-set_here [] n old x e = cc
-set_here (y ∷ ys) zero old x e = refl
-set_here (y ∷ ys) (suc n) old x e = set_here ys n old x e
-
-set_elsewhere : {X : Type 0} (xs : List X) (n m : ℕ) (x : X) → (n ≡ m → ⊥)
-    → slice_get (slice_set xs n x) m ≡ slice_get xs m
-set_elsewhere [] n m x apart = refl
-set_elsewhere (y ∷ ys) zero zero x apart = absurd (apart refl)
-set_elsewhere (y ∷ ys) zero (suc m) x apart = refl
-set_elsewhere (y ∷ ys) (suc n) zero x apart = refl
-set_elsewhere (y ∷ ys) (suc n) (suc m) x apart = set_elsewhere ys n m x (λ e. apart (ap (λ k. suc k) e))
-
-each_set : {A B : Type 0} (R : A → B → Type 0) (xs : List A) (ys : List B) (n : ℕ) (x : A) (y : B) → AllZip R xs ys
-    → slice_get xs n ≡ Some x → R x y → AllZip R xs (slice_set ys n y)
-each_set R [] [] n x y all at one = tt
-each_set R [] (b ∷ ys) n x y all at one = absurd all
-each_set R (a ∷ xs) [] n x y all at one = absurd all
-each_set R (a ∷ xs) (b ∷ ys) zero x y all at one = let same : a ≡ x = cc at in
-    (subst (λ z. R z y) (sym same) one, all.1)
-each_set R (a ∷ xs) (b ∷ ys) (suc n) x y all at one = (all.0, each_set R xs ys n x y all.1 at one)
 
 -- the partner of an element
 pub record Partner {A B : Type 0} (R : A → B → Type 0) (ys : List B) (n : ℕ) (x : A) : Type 0 where

@@ -19,7 +19,8 @@ use Rattle.msdb_store.specs.inside.Touches.{made}
 use Rattle.key_order.proofs.Ascending.{below_differs, differs_back, not_below_itself, not_both}
 use Rattle.msdb_store.proofs.Databases.{AreOf, item_good}
 use Rattle.msdb_store.proofs.Publishing.{Before, before_trans, order_behind, split}
-use Rattle.msdb_store.proofs.Stagings.{behind_item, first_true, has_its}
+use Rattle.msdb_store.proofs.Stagings.{behind_item, has_its}
+use Rattle.plain_laws.proofs.Truths.{first_of_both}
 
 -- ---- what a list contains
 
@@ -68,7 +69,7 @@ before_all : (n : ℕ) (k b : List ℕ) (items : List Item) → AllByRecursion I
 before_all n k b [] segments order m j c there = absurd (contains_nothing (Segment m j c) there)
 before_all n k b (Segment o l d ∷ rest) segments order m j c there =
     let first = split n k o l
-    (first_true (precedes (Segment n k b) (Segment o l d)) (is_ascending (Segment o l d ∷ rest)) order) in
+    (first_of_both (precedes (Segment n k b) (Segment o l d)) (is_ascending (Segment o l d ∷ rest)) order) in
     let later = before_all o l d rest segments.1 (order_behind (Segment n k b) (Segment o l d ∷ rest) order) in
     elim (contains_cases (Segment o l d) rest (Segment m j c) there) [
       | inl same ↦

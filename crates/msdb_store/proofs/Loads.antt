@@ -6,15 +6,17 @@ use Rattle.std.proofs.lemmas.Map.Keys.{IsDistinct-head, IsDistinct-tail}
 use Rattle.fp_model.specs.CheckpointText.{IsMsdbOf}
 use Rattle.fp_model.specs.State.{drop_key, key_of, loaded, put_by_key}
 use Rattle.fp_model.specs.Texts.{same_text}
-use Rattle.fp_model.specs.WellFormed.{IsLoaded, IsMsdbDef}
+use Rattle.fp_model.specs.WellFormed.{IsMsdbDef}
 use Rattle.std.proofs.lemmas.List.{map-append, take_more}
 use Rattle.fp_model.specs.declared.database.Msdb.{Msdb}
 use Rattle.fp_model.specs.declared.definitions.FieldDef.{FieldDef}
 use Rattle.fp_model.specs.declared.definitions.MsdbDef.{MsdbDef}
-use Rattle.key_order.proofs.Ascending.{all_put}
+use Rattle.key_order.proofs.Ascending.{still_differ}
 use Rattle.msdb_store.specs.inside.Putting.{AreFew}
 use Rattle.msdb_store.proofs.Rooms.{few_push}
-use Rattle.msdb_store.proofs.Tables.{with_good}
+use Rattle.model_laws.proofs.Segments.{differ_nothing, lengths_of, none_dropped}
+use Rattle.plain_laws.proofs.Alls.{each_push}
+use Rattle.state_laws.proofs.Settling.{with_good}
 
 -- the segments so far, and what is left to load
 record IsLoading (def : MsdbDef) (segments rest : List (List ℕ)) : Type 0 where
@@ -25,16 +27,6 @@ record IsLoading (def : MsdbDef) (segments rest : List (List ℕ)) : Type 0 wher
       segments) rest
   pub whole : fold (λ (ss : List (List ℕ)) s. put_by_key (key_of def.fields) s ss) segments rest ≡ (loaded def).segments
 
-lengths_of : (def : MsdbDef) (load : List (List ℕ)) → AllByRecursion (IsLoaded def) load
-    → AllByRecursion (λ s. length s ≡ def.length) load
-lengths_of def [] all = tt
-lengths_of def (s ∷ load) all = (all.0.whole, lengths_of def load all.1)
-
-differ_nothing : (key : List ℕ → List ℕ) (load : List (List ℕ))
-    → AllByRecursion (λ s. AllByRecursion (λ y. same_text (key y) (key s) ≡ false) []) load
-differ_nothing key [] = tt
-differ_nothing key (s ∷ load) = (tt, differ_nothing key load)
-
 at_first : (def : MsdbDef) → IsMsdbDef def → IsLoading def [] def.load
 at_first def is = record {
   good = record { lengths = tt; in_order = refl };
@@ -43,22 +35,6 @@ at_first def is = record {
   differ = differ_nothing (key_of def.fields) def.load;
   whole = refl;
 }
-
--- where no key is the same, none is dropped
-none_dropped : (key : List ℕ → List ℕ) (k : List ℕ) (xs : List (List ℕ))
-    → AllByRecursion (λ y. same_text (key y) k ≡ false) xs → drop_key key k xs ≡ xs
-none_dropped key k [] all = refl
-none_dropped key k (x ∷ xs) all = rw all.0 (ap (λ ys. x ∷ ys) (none_dropped key k xs all.1))
-
-still_differ : (key : List ℕ → List ℕ) (s : List ℕ) (segments rest : List (List ℕ))
-    → AllByRecursion (λ k. same_text (key s) k ≡ false) (map key rest)
-    → AllByRecursion (λ r. AllByRecursion (λ y. same_text (key y) (key r) ≡ false) segments) rest
-    → AllByRecursion (λ r. AllByRecursion (λ y. same_text (key y) (key r) ≡ false) (put_by_key key s segments)) rest
-still_differ key s segments [] head differ = tt
-still_differ key s segments (r ∷ rest) head differ = (
-  all_put key (λ y. same_text (key y) (key r) ≡ false) s segments head.0 differ.0,
-  still_differ key s segments rest head.1 differ.1,
-)
 
 one_more : (def : MsdbDef) (segments : List (List ℕ)) (s : List ℕ) (rest : List (List ℕ))
     → IsLoading def segments (s ∷ rest) → IsLoading def (put_by_key (key_of def.fields) s segments) rest
@@ -80,16 +56,6 @@ all_loaded : (def : MsdbDef) (segments rest : List (List ℕ)) → IsLoading def
 all_loaded def segments [] is = subst (λ ss. IsMsdbOf def (record { segments = ss })) is.whole is.good
 all_loaded def segments (s ∷ rest) is = all_loaded def (put_by_key (key_of def.fields) s segments) rest
     (one_more def segments s rest is)
-
-pub good_load : (def : MsdbDef) → IsMsdbDef def → IsMsdbOf def (loaded def)
-good_load def is = all_loaded def [] def.load (at_first def is)
-
-each_more : {A B : Type 0} (R : A → B → Type 0) (xs : List A) (ys : List B) (x : A) (y : B) → AllZip R xs ys → R x y
-    → AllZip R (xs ++ x ∷ []) (ys ++ y ∷ [])
-each_more R [] [] x y all one = (one, tt)
-each_more R [] (b ∷ ys) x y all one = absurd all
-each_more R (a ∷ xs) [] x y all one = absurd all
-each_more R (a ∷ xs) (b ∷ ys) x y all one = (all.0, each_more R xs ys x y all.1 one)
 
 -- the tables of the definitions so far
 pub record AreLoaded {T : Type 0} (fields : T → List FieldDef) (msdb : T → Msdb) (defs : List MsdbDef) (tables : List T)
@@ -115,6 +81,6 @@ next_table fields msdb defs i d tables more t within d_is is more_is fields_are 
       segments = map-append msdb tables (t ∷ []) ∙ ap (λ ms. ms ++ msdb t ∷ []) is.segments ∙ ap
           (λ m. map loaded (take i defs) ++ m ∷ []) segments_are ∙ sym (map-append loaded (take i defs) (d ∷ []));
       each = subst (AllZip IsMsdbOf (take i defs ++ d ∷ [])) (sym (map-append msdb tables (t ∷ [])))
-          (each_more IsMsdbOf (take i defs) (map msdb tables) d (msdb t) is.each good);
+          (each_push IsMsdbOf (take i defs) (map msdb tables) d (msdb t) is.each good);
       few = few_push msdb tables t is.few short;
     }))

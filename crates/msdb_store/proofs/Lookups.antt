@@ -4,12 +4,14 @@ use Rattle.std.specs.Prelude.{find, if◌then◌else◌}
 use Rattle.std.specs.List.{AllByRecursion}
 use Rattle.fp_model.specs.State.{is_below, put_by_key, drop_key}
 use Rattle.fp_model.specs.Texts.{same_text}
-use Rattle.key_order.proofs.Ascending.{IsAscending, all_above, is_same, none_behind, none_is_not_some, not_above, not_below_itself, not_both, same_is, some_is, tail_ascends}
+use Rattle.key_order.proofs.Ascending.{IsAscending, all_above, none_behind, not_above, not_below_itself, not_both, tail_ascends}
 use Prim.Native.Nat.{ℕ}
+use Rattle.model_laws.proofs.Texts.{same_text_is, text_is_same}
+use Rattle.std.proofs.lemmas.Option.{none-some, same_Some}
 
 -- two keys that are the same as a third are the same
 pub meet : (a b c : List ℕ) → same_text a c ≡ true → same_text b c ≡ true → same_text a b ≡ true
-meet a b c ac bc = subst (λ x. same_text a x ≡ true) (same_is a c ac ∙ sym (same_is b c bc)) (is_same a)
+meet a b c ac bc = subst (λ x. same_text a x ≡ true) (same_text_is a c ac ∙ sym (same_text_is b c bc)) (text_is_same a)
 
 module _ {X : Type 0} (key : X → List ℕ) where
   abbrev pub at : List ℕ → List X → Option X
@@ -37,9 +39,9 @@ module _ {X : Type 0} (key : X → List ℕ) where
           → at j (drop_key key k (x ∷ xs)) ≡ (if same_text k j then None else at j (x ∷ xs))
       by true true true a b c later = rw (a, c) (rw c at later)
       by true true false a b c later = absurd (not_both
-          (sym (subst (λ y. same_text y j ≡ true) (same_is (key x) k a) b) ∙ c))
+          (sym (subst (λ y. same_text y j ≡ true) (same_text_is (key x) k a) b) ∙ c))
       by true false true a b c later = absurd (not_both
-          (sym (subst (λ y. same_text y j ≡ true) (sym (same_is (key x) k a)) c) ∙ b))
+          (sym (subst (λ y. same_text y j ≡ true) (sym (same_text_is (key x) k a)) c) ∙ b))
       by true false false a b c later = rw (a, c, b) (rw c at later)
       by false true true a b c later = absurd (not_both (sym (meet (key x) k j b c) ∙ a))
       by false true false a b c later = rw (a, c, b) refl
@@ -63,21 +65,21 @@ module _ {X : Type 0} (key : X → List ℕ) where
 
   -- what holds of each element holds of the one that is found
   pub found_is : (P : X → Type 0) (j : List ℕ) (x : X) (xs : List X) → AllByRecursion P xs → at j xs ≡ Some x → P x
-  found_is P j x [] all e = absurd (none_is_not_some x e)
+  found_is P j x [] all e = absurd (none-some x e)
   found_is P j x (y ∷ ys) all e = by (same_text (key y) j) refl (found_is P j x ys all.1)
     where
       by : (b : Bool) → same_text (key y) j ≡ b → (at j ys ≡ Some x → P x) → P x
-      by true b later = subst P (some_is y x (sym (at_first j y ys b) ∙ e)) all.0
+      by true b later = subst P (same_Some y x (sym (at_first j y ys b) ∙ e)) all.0
       by false b later = later (sym (at_later j y ys b) ∙ e)
 
   -- the one that is found has the key
   pub found_has : (j : List ℕ) (x : X) (xs : List X) → at j xs ≡ Some x → same_text (key x) j ≡ true
-  found_has j x [] e = absurd (none_is_not_some x e)
+  found_has j x [] e = absurd (none-some x e)
   found_has j x (y ∷ ys) e = by (same_text (key y) j) refl (found_has j x ys)
     where
       by : (b : Bool) → same_text (key y) j ≡ b → (at j ys ≡ Some x → same_text (key x) j ≡ true)
           → same_text (key x) j ≡ true
-      by true b later = subst (λ z. same_text (key z) j ≡ true) (some_is y x (sym (at_first j y ys b) ∙ e)) b
+      by true b later = subst (λ z. same_text (key z) j ≡ true) (same_Some y x (sym (at_first j y ys b) ∙ e)) b
       by false b later = later (sym (at_later j y ys b) ∙ e)
 
   -- a list in which the first element of another is found begins with it, or with a lower one
@@ -89,7 +91,7 @@ module _ {X : Type 0} (key : X → List ℕ) where
   first_is x y ys up e = by (same_text (key y) (key x)) refl
     where
       by : (b : Bool) → same_text (key y) (key x) ≡ b → First x y
-      by true b = Same (sym (some_is y x (sym (at_first (key x) y ys b) ∙ e)))
+      by true b = Same (sym (same_Some y x (sym (at_first (key x) y ys b) ∙ e)))
       by false b = Above (found_is (λ z. is_below (key y) (key z) ≡ true) (key x) x ys (all_above key y ys up)
           (sym (at_later (key x) y ys b) ∙ e))
 
@@ -102,20 +104,20 @@ module _ {X : Type 0} (key : X → List ℕ) where
   none_later : (j : List ℕ) (x : X) (xs : List X) → IsAscending key (x ∷ xs) → same_text (key x) j ≡ true
       → at j xs ≡ None
   none_later j x xs up same = none_behind key j x xs
-      (subst (λ k. is_below (key x) k ≡ false) (same_is (key x) j same) (not_below_itself (key x)))
+      (subst (λ k. is_below (key x) k ≡ false) (same_text_is (key x) j same) (not_below_itself (key x)))
       (all_above key x xs up)
 
   -- lists with ascending keys in which each key finds the same are the same
   pub same_list : (xs ys : List X) → IsAscending key xs → IsAscending key ys → ((j : List ℕ) → at j xs ≡ at j ys)
       → xs ≡ ys
   same_list [] [] upx upy same = refl
-  same_list [] (y ∷ ys) upx upy same = absurd (none_is_not_some y
-      (same (key y) ∙ at_first (key y) y ys (is_same (key y))))
-  same_list (x ∷ xs) [] upx upy same = absurd (none_is_not_some x
-      (sym (same (key x)) ∙ at_first (key x) x xs (is_same (key x))))
+  same_list [] (y ∷ ys) upx upy same = absurd (none-some y
+      (same (key y) ∙ at_first (key y) y ys (text_is_same (key y))))
+  same_list (x ∷ xs) [] upx upy same = absurd (none-some x
+      (sym (same (key x)) ∙ at_first (key x) x xs (text_is_same (key x))))
   same_list (x ∷ xs) (y ∷ ys) upx upy same =
-      let head : x ≡ y = heads x y (first_is x y ys upy (sym (same (key x)) ∙ at_first (key x) x xs (is_same (key x))))
-      (first_is y x xs upx (same (key y) ∙ at_first (key y) y ys (is_same (key y)))) in
+      let head : x ≡ y = heads x y (first_is x y ys upy (sym (same (key x)) ∙ at_first (key x) x xs (text_is_same (key x))))
+      (first_is y x xs upx (same (key y) ∙ at_first (key y) y ys (text_is_same (key y)))) in
       ap (λ z. z ∷ xs) head ∙ ap (λ zs. y ∷ zs) (same_list xs ys (tail_ascends key x xs upx) (tail_ascends key y ys upy)
       (λ j. tails j (same_text (key x) j) refl head))
     where

@@ -10,26 +10,20 @@ use Rattle.fp_model.specs.declared.log.Item.TheVariants.{Segment, Image, Range}
 use Rattle.msdb_store.specs.Settling.{HasItem, IsNamed, named}
 use Rattle.msdb_store.specs.Touches.{Touch}
 use Rattle.msdb_store.specs.inside.Touches.{bytes_at, has_key, item_of}
-use Rattle.key_order.proofs.Ascending.{is_same, same_is}
 use Rattle.msdb_store.proofs.Queues.{names}
-use Rattle.msdb_store.proofs.Stagings.{first_true, is_number, number_is, second_true}
+use Rattle.plain_laws.proofs.Truths.{first_of_both, second_of_both}
+use Rattle.plain_laws.proofs.Numbers.{is_number, number_is}
+use Rattle.model_laws.proofs.Texts.{same_text_is, text_is_same}
+use Rattle.std.proofs.lemmas.Bool.{or_left, or_right}
 
 -- ---- an element that passes a test
-
-left_true : (a b : Bool) → a ≡ true → (a || b) ≡ true
-left_true true b e = refl
-left_true false b e = cc
-
-right_true : (a b : Bool) → b ≡ true → (a || b) ≡ true
-right_true true b e = refl
-right_true false b e = e
 
 contains_any : {X : Type 0} (p : X → Bool) (xs : List X) (x : X) (i : ℕ) → i < length xs → slice_index_or xs i x ≡ x
     → p x ≡ true → list_any p xs ≡ true
 contains_any p [] x i within is passes = absurd (omega (arith, within))
-contains_any p (y ∷ ys) x zero within is passes = left_true (p y) (list_any p ys) (ap p is ∙ passes)
+contains_any p (y ∷ ys) x zero within is passes = or_left (p y) (list_any p ys) (ap p is ∙ passes)
 contains_any p (y ∷ ys) x (suc i) within is passes =
-    right_true (p y) (list_any p ys) (contains_any p ys x i (omega (arith, within)) is passes)
+    or_right (p y) (list_any p ys) (contains_any p ys x i (omega (arith, within)) is passes)
 
 record Passing {X : Type 0} (p : X → Bool) (xs : List X) : Type 0 where
   it : X
@@ -59,12 +53,12 @@ is_pair n k e = e.0 == n && same_text e.1 k
 
 pair_is : (n : ℕ) (k : List ℕ) (e : ℕ × List ℕ) → is_pair n k e ≡ true → e ≡ (n, k)
 pair_is n k e same =
-    let first : e.0 ≡ n = number_is e.0 n (first_true (e.0 == n) (same_text e.1 k) same) in
-    let second : e.1 ≡ k = same_is e.1 k (second_true (e.0 == n) (same_text e.1 k) same) in
+    let first : e.0 ≡ n = number_is e.0 n (first_of_both (e.0 == n) (same_text e.1 k) same) in
+    let second : e.1 ≡ k = same_text_is e.1 k (second_of_both (e.0 == n) (same_text e.1 k) same) in
     ap (λ m. (m, e.1)) first ∙ ap (λ j. (n, j)) second
 
 its_pair : (n : ℕ) (k : List ℕ) → is_pair n k (n, k) ≡ true
-its_pair n k = rw (is_number n) (is_same k)
+its_pair n k = rw (is_number n) (text_is_same k)
 
 named_any : (defs : List MsdbDef) (calls : List Deferred) (n : ℕ) (k : List ℕ) → IsNamed defs calls n k
     → list_any (names defs n k) calls ≡ true
@@ -109,8 +103,8 @@ any_item ts n k e = let p = any_contains (of_key n k) (map item_of ts) (any_map 
     by : (x : Item) (i : ℕ) → i < length (map item_of ts) → slice_index_or (map item_of ts) i x ≡ x
         → of_key n k x ≡ true → HasItem (map item_of ts) n k
     by (Segment m j bytes) i within is passes =
-        let first : m ≡ n = number_is m n (first_true (m == n) (same_text j k) passes) in
-        let second : j ≡ k = same_is j k (second_true (m == n) (same_text j k) passes) in (
+        let first : m ≡ n = number_is m n (first_of_both (m == n) (same_text j k) passes) in
+        let second : j ≡ k = same_text_is j k (second_of_both (m == n) (same_text j k) passes) in (
           bytes,
           (
             i,

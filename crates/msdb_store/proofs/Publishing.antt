@@ -19,7 +19,9 @@ use Rattle.msdb_store.specs.Store.{IsFitSegment, IsOf, Stored, segment_in}
 use Rattle.msdb_store.specs.Touches.{Touch}
 use Rattle.msdb_store.specs.inside.Touches.{made}
 use Rattle.key_order.proofs.Ascending.{below_differs, below_trans, not_both}
-use Rattle.msdb_store.proofs.Stagings.{behind_item, first_true, is_number, number_is, second_true}
+use Rattle.msdb_store.proofs.Stagings.{behind_item}
+use Rattle.plain_laws.proofs.Truths.{first_of_both, second_of_both}
+use Rattle.plain_laws.proofs.Numbers.{is_number, number_is}
 
 -- ---- the order of items
 
@@ -34,7 +36,7 @@ split n k m j e = by (nat_lt n m) refl
     by true lower = inl (grind (arith, nat_tests))
     by false lower =
         let rest : (n == m && is_below k j) ≡ true = ap (λ (b : Bool). b || n == m && is_below k j) (sym lower) ∙ e in
-        inr (number_is n m (first_true (n == m) (is_below k j) rest), second_true (n == m) (is_below k j) rest)
+        inr (number_is n m (first_of_both (n == m) (is_below k j) rest), second_of_both (n == m) (is_below k j) rest)
 
 both : (n : ℕ) (k : List ℕ) (m : ℕ) (j : List ℕ) → Before n k m j → precedes (Segment n k []) (Segment m j []) ≡ true
 both n k m j (inl lower) = let less : nat_lt n m ≡ true = grind (arith, nat_tests) in rw less refl
@@ -68,8 +70,8 @@ all_behind : (n : ℕ) (k bytes : List ℕ) (rest : List Item) → AllByRecursio
 all_behind n k bytes [] all order = tt
 all_behind n k bytes (Segment m j b ∷ rest) all order =
     let first : precedes (Segment n k bytes) (Segment m j b) ≡ true =
-    first_true _ (is_ascending (Segment m j b ∷ rest)) order in
-    let later = all_behind m j b rest all.1 (second_true (precedes (Segment n k bytes) (Segment m j b)) _ order) in
+    first_of_both _ (is_ascending (Segment m j b ∷ rest)) order in
+    let later = all_behind m j b rest all.1 (second_of_both (precedes (Segment n k bytes) (Segment m j b)) _ order) in
     (first, above rest all.1 later first)
   where
     above : (items : List Item) → AllByRecursion IsSegmentItem items
@@ -88,7 +90,7 @@ all_behind n k bytes (Range set ci at b ∷ rest) all order = absurd all.0
 
 pub order_behind : (item : Item) (rest : List Item) → is_ascending (item ∷ rest) ≡ true → is_ascending rest ≡ true
 order_behind item [] order = refl
-order_behind item (next ∷ rest) order = second_true (precedes item next) (is_ascending (next ∷ rest)) order
+order_behind item (next ∷ rest) order = second_of_both (precedes item next) (is_ascending (next ∷ rest)) order
 
 count_cons : (p : Item → Bool) (x : Item) (items : List Item)
     → count_by p (x ∷ items) ≡ (if p x then 1 else 0) + count_by p items

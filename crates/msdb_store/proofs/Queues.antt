@@ -27,6 +27,7 @@ use Rattle.msdb_store.specs.Touches.{Touch}
 use Rattle.msdb_store.specs.inside.Touches.{AreInOrder, bytes_at, has_key, item_of, made, put_touch, seen, touch_cmp}
 use Rattle.msdb_store.proofs.Databases.{item_good, same_databases}
 use Rattle.msdb_store.proofs.Stagings.{at_put, behind_item, long_put, none_staged, one_staged, shown, ties}
+use Rattle.model_laws.proofs.Segments.{all_done}
 
 -- whether a call names this key
 abbrev pub names : List MsdbDef → ℕ → List ℕ → Deferred → Bool
@@ -62,10 +63,6 @@ unfolding settle_from
 bad_call defs at now call rest fsa found e = ap (λ (a : Applied).
     let all : Settled = elim a [ Becomes ms ↦ settle_from defs (at + 1) ms rest | Fails f g ↦ VerifyFails at f g ] in
     all) e
-
-none_left : (defs : List MsdbDef) (at : ℕ) (now : List Msdb) → settle_from defs at now [] ≡ Stands now
-unfolding settle_from
-none_left defs at now = refl
 
 any_more : {X : Type 0} (p : X → Bool) (xs : List X) (x : X) → list_any p (xs ++ x ∷ []) ≡ (list_any p xs || p x)
 any_more p [] x = by (p x)
@@ -173,7 +170,7 @@ pub good_answer : (defs : List MsdbDef) (msdbs : List Msdb) (all done : List Def
     → items ≡ map item_of ts
     → settle_from defs 0 msdbs all ≡ Stands (with_items defs msdbs items)
 good_answer defs msdbs all done at ts items of s order is =
-    s.left ∙ none_left defs at s.now ∙ ap Stands (sym (same_end defs msdbs ts s.now of s.stages order)) ∙ ap
+    s.left ∙ all_done defs at s.now ∙ ap Stands (sym (same_end defs msdbs ts s.now of s.stages order)) ∙ ap
     (λ its. Stands (with_items defs msdbs its)) (sym is)
 
 -- ---- the items

@@ -11,6 +11,10 @@ use Rattle.key_order.specs.Places.{IsPlace}
 use Rattle.msdb_store.specs.Slots.{AreSlots, in_slots, slot_of, times}
 use Rattle.std.proofs.lemmas.Option.{slice_get-map}
 use Rattle.key_order.proofs.Ascending.{not_both, stands_there}
+use Rattle.plain_laws.proofs.Alls.{all_pushed, all_weaker}
+use Rattle.plain_laws.proofs.Lists.{map_length, map_twice}
+use Rattle.plain_laws.proofs.Places.{map_insert}
+use Rattle.model_laws.proofs.Numberings.{numbers_length}
 
 -- ---- how often a number stands in a list
 
@@ -86,12 +90,6 @@ set_at slots h s (n ∷ ns) (suc at) there within e once =
 
 -- ---- edits of a list and of what its elements give
 
-map_insert : {A B : Type 0} (f : A → B) (xs : List A) (i : ℕ) (x : A)
-    → map f (insert xs i x) ≡ insert (map f xs) i (f x)
-map_insert f xs zero x = refl
-map_insert f [] (suc i) x = refl
-map_insert f (y ∷ ys) (suc i) x = ap (λ zs. f y ∷ zs) (map_insert f ys i x)
-
 map_remove : {A B : Type 0} (f : A → B) (xs : List A) (i : ℕ) → map f (remove xs i) ≡ remove (map f xs) i
 map_remove f [] zero = refl
 map_remove f [] (suc i) = refl
@@ -109,16 +107,6 @@ all_remove P [] zero all = tt
 all_remove P [] (suc i) all = tt
 all_remove P (y ∷ ys) zero all = all.1
 all_remove P (y ∷ ys) (suc i) all = (all.0, all_remove P ys i all.1)
-
-all_push : {A : Type 0} (P : A → Type 0) (xs : List A) (x : A) → P x → AllByRecursion P xs
-    → AllByRecursion P (xs ++ x ∷ [])
-all_push P [] x one all = (one, tt)
-all_push P (y ∷ ys) x one all = (all.0, all_push P ys x one all.1)
-
-all_weaker : {A : Type 0} (P Q : A → Type 0) (xs : List A) → ((x : A) → P x → Q x) → AllByRecursion P xs
-    → AllByRecursion Q xs
-all_weaker P Q [] weaker all = tt
-all_weaker P Q (x ∷ xs) weaker all = (weaker x all.0, all_weaker P Q xs weaker all.1)
 
 all_at : (P : ℕ → Type 0) (xs : List ℕ) (i d : ℕ) → i < length xs → AllByRecursion P xs → P (slice_index_or xs i d)
 all_at P [] i d within all = absurd (omega (arith, within))
@@ -155,20 +143,11 @@ taken_out (n ∷ ns) (suc used) (suc at) h low within =
 
 -- ---- the edits
 
--- what an edit of a vector gives where it succeeds
-pub ok_then : {A E : Type 0} (r : Result (Unit {0}) E) (x a b : A) → IsOk r → x ≡ (if is_ok r then a else b) → x ≡ a
-ok_then (Ok u) x a b ok e = e
-ok_then (Err why) x a b ok e = absurd (not_both (sym ok))
-
 take_reads : (ns : List ℕ) (n i d : ℕ) → i < n → slice_index_or (take n ns) i d ≡ slice_index_or ns i d
 take_reads ns zero i d lt = absurd (omega (arith, lt))
 take_reads [] (suc n) i d lt = refl
 take_reads (m ∷ ms) (suc n) zero d lt = refl
 take_reads (m ∷ ms) (suc n) (suc i) d lt = take_reads ms n i d (omega (arith, lt))
-
-map_length : {A B : Type 0} (f : A → B) (xs : List A) → length (map f xs) ≡ length xs
-map_length f [] = refl
-map_length f (x ∷ xs) = ap suc (map_length f xs)
 
 -- there are as many segments as slots are used
 pub used_length : (slots : List (List ℕ)) (order : List ℕ) (used : ℕ) → AreSlots (length slots) order used → length (in_slots slots (take used order)) ≡ used
@@ -288,7 +267,7 @@ are_out slots order used at h are within e =
         are.once n,
       );
       below = subst (λ end. AllByRecursion (λ n. n < end) (remove order at ++ h ∷ [])) (sym long)
-          (all_push (λ n. n < length order) (remove order at) h below
+          (all_pushed (λ n. n < length order) (remove order at) h below
           (all_remove (λ n. n < length order) order at are.below));
       there = omega (arith, long, are.there);
       within = omega (arith, long, are.within);
@@ -324,7 +303,7 @@ are_more slots order used are room =
     record {
       once = λ n. omega (arith, sum_by_push (is n) order (length order), once n (is n (length order)) refl);
       below = subst (λ end. AllByRecursion (λ n. n < end) (order ++ length order ∷ [])) (sym long)
-          (all_push (λ n. n < length order + 1) order (length order) (omega arith)
+          (all_pushed (λ n. n < length order + 1) order (length order) (omega arith)
           (all_weaker (λ n. n < length order) (λ n. n < length order + 1) order (λ n lt. omega (arith, lt))
           are.below));
       there = omega (arith, long, room);
@@ -348,10 +327,6 @@ pub take_more_order : (order : List ℕ) (used n : ℕ) → used ≤ length orde
 take_more_order order used n within = take_whole used order n within
 
 -- ---- slots in the order of their numbers
-
-up_length : (n from : ℕ) → length (numbers_up n from) ≡ n
-up_length zero from = refl
-up_length (suc n) from = ap suc (up_length n (from + 1))
 
 up_below : (n from : ℕ) → AllByRecursion (λ m. m < from + n) (numbers_up n from)
 up_below zero from = tt
@@ -388,7 +363,7 @@ up_once number (suc n) from = by (from == number) refl (up_once number n (from +
 
 pub are_up : (n : ℕ) → AreSlots n (numbers_up n 0) n
 are_up n =
-    let long = up_length n 0 in
+    let long = numbers_length n 0 in
     record {
       once = λ number. up_once number n 0;
       below = subst (λ end. AllByRecursion (λ m. m < end) (numbers_up n 0)) (sym long)
@@ -422,7 +397,7 @@ take_everything (suc n) (x ∷ xs) e = ap (λ ys. x ∷ ys) (take_everything n x
 
 pub slots_up : (slots : List (List ℕ)) (n : ℕ) → n ≡ length slots → in_slots slots (take n (numbers_up n 0)) ≡ slots
 slots_up slots n e =
-    ap (in_slots slots) (take_everything n (numbers_up n 0) (sym (up_length n 0)))
+    ap (in_slots slots) (take_everything n (numbers_up n 0) (sym (numbers_length n 0)))
     ∙ ap (λ m. in_slots slots (numbers_up m 0)) e
     ∙ up_slots [] slots 0 refl
 
@@ -439,14 +414,10 @@ up_push n = up_next n 0 ∙ ap (λ k. numbers_up n 0 ++ k ∷ []) (let e : 0 + n
 
 -- ---- places
 
-map_both : {A B C : Type 0} (f : A → B) (g : B → C) (xs : List A) → map g (map f xs) ≡ map (λ x. g (f x)) xs
-map_both f g [] = refl
-map_both f g (x ∷ xs) = ap (λ ys. g (f x) ∷ ys) (map_both f g xs)
-
 -- keys that ascend among segments ascend among the numbers of their slots
 pub ascends_as : (slots : List (List ℕ)) (count : ℕ) (ns : List ℕ)
     → ascend (map (take count) (in_slots slots ns)) ≡ true → ascend (map (λ n. take count (slot_of slots n)) ns) ≡ true
-ascends_as slots count ns up = ap ascend (sym (map_both (slot_of slots) (take count) ns)) ∙ up
+ascends_as slots count ns up = ap ascend (sym (map_twice (slot_of slots) (take count) ns)) ∙ up
 
 -- and a place among the numbers is one among the segments
 pub place_as : (slots : List (List ℕ)) (count : ℕ) (key : List ℕ) (ns : List ℕ) (n : ℕ) → n ≤ length ns

@@ -20,9 +20,10 @@ use Rattle.fp_model.specs.State.{ascend, is_below, key_of, loaded, put_by_key}
 use Rattle.fp_model.specs.Texts.{same_text}
 use Rattle.fp_model.specs.WellFormed.{IsMsdbDef}
 use Rattle.fp_model.specs.declared.definitions.MsdbDef.{MsdbDef}
-use Rattle.key_order.proofs.Ascending.{all_above, below_differs, is_same, not_both, same_is, same_or_above, tail_ascends}
-use Rattle.msdb_store.proofs.Loads.{good_load}
+use Rattle.key_order.proofs.Ascending.{all_above, below_differs, not_both, same_or_above, tail_ascends}
 use Rattle.msdb_store.proofs.Lookups.{at, at_first, at_later, found_has, found_is, same_list}
+use Rattle.model_laws.proofs.Texts.{same_text_is, text_is_same}
+use Rattle.state_laws.proofs.Start.{loaded_good}
 
 abbrev one_if : Bool → ℕ
 one_if b = if b then 1 else 0
@@ -48,7 +49,7 @@ module _ {X : Type 0} (key : X → List ℕ) where
   )
     where
       back : (b : Bool) → same_text (key x) k ≡ b → same_text (key x) k ≡ false
-      back true e = absurd (not_both (sym (is_same k) ∙ ap (λ j. same_text k j) (sym (same_is (key x) k e)) ∙ all.0))
+      back true e = absurd (not_both (sym (text_is_same k) ∙ ap (λ j. same_text k j) (sym (same_text_is (key x) k e)) ∙ all.0))
       back false e = e
 
   one_with : (k : List ℕ) (xs : List X) → IsDistinct same_text (map key xs) → with_key k xs ≤ 1
@@ -58,7 +59,7 @@ module _ {X : Type 0} (key : X → List ℕ) where
     where
       by : (b : Bool) → same_text (key x) k ≡ b → with_key k xs ≤ 1 → with_key k (x ∷ xs) ≤ 1
       by true e later =
-          let none : with_key k xs ≡ 0 = subst (λ j. with_key j xs ≡ 0) (same_is (key x) k e)
+          let none : with_key k xs ≡ 0 = subst (λ j. with_key j xs ≡ 0) (same_text_is (key x) k e)
           (none_with (key x) xs (IsDistinct-head same_text (key x) (map key xs) apart)) in
           omega (arith, with_key_cons k x xs, ap one_if e, none)
       by false e later = omega (arith, with_key_cons k x xs, ap one_if e, later)
@@ -81,7 +82,7 @@ module _ {X : Type 0} (key : X → List ℕ) where
         with_key_cons (key x) x (y ∷ zs),
         with_key_cons (key x) y zs,
         ap one_if e,
-        ap one_if (is_same (key x)),
+        ap one_if (text_is_same (key x)),
       ))
       apart false e = e
 
@@ -103,7 +104,7 @@ module _ {X : Type 0} (key : X → List ℕ) where
   each_found : (xs : List X) → ascend (map key xs) ≡ true → AllByRecursion (λ x. at key (key x) xs ≡ Some x) xs
   each_found [] up = tt
   each_found (x ∷ xs) up = (
-    at_first key (key x) x xs (is_same (key x)),
+    at_first key (key x) x xs (text_is_same (key x)),
     each_and (λ y. is_below (key x) (key y) ≡ true) (λ y. at key (key y) xs ≡ Some y)
         (λ y. at key (key y) (x ∷ xs) ≡ Some y) xs (λ y above here. at_later key (key y) x xs
         (below_differs (key x) (key y) above) ∙ here)
@@ -116,7 +117,7 @@ module _ {X : Type 0} (key : X → List ℕ) where
       let P : X → Type 0 = λ y. at key (key y) ys ≡ Some y in
       let all : AllByRecursion P xs = recursion_from_All P xs
       (All-permutation P ys xs (IsPermutation-sym xs ys same) (All-from_recursion P ys (each_found ys up))) in
-      ap (λ k. at key k ys) (sym (same_is (key x) j (found_has key j x xs there))) ∙ found_is key P j x xs all there
+      ap (λ k. at key k ys) (sym (same_text_is (key x) j (found_has key j x xs there))) ∙ found_is key P j x xs all there
 
   same_found : (xs ys : List X) → IsPermutation xs ys → ascend (map key xs) ≡ true → ascend (map key ys) ≡ true
       → (j : List ℕ) → at key j xs ≡ at key j ys
@@ -176,9 +177,9 @@ sorted_is def load is same sorted =
     ) in
     one_order key load (loaded def).segments (IsPermutation-trans load def.load (loaded def).segments
     (IsPermutation-sym def.load load same) (put_all key [] def.load)) (ascends key load sorted once)
-    ((good_load def is).in_order)
+    ((loaded_good def is).in_order)
 
 pub sorted_good : (def : MsdbDef) (load : List (List ℕ)) → IsMsdbDef def → load ≡ (loaded def).segments
     → IsMsdbOf def (record { segments = load })
 sorted_good def load is same = subst (λ segments. IsMsdbOf def (record { segments = segments })) (sym same)
-    (good_load def is)
+    (loaded_good def is)

@@ -23,33 +23,22 @@ use Rattle.msdb_store.specs.Store.{IsFitSegment, segment_in}
 use Rattle.msdb_store.specs.Touches.{Touch}
 use Rattle.msdb_store.specs.inside.Touches.{AreInOrder, bytes_at, has_key, item_of, made, put_touch, seen, touch_cmp}
 use Rattle.msdb_store.specs.inside.Steps.{Stages}
-use Rattle.key_order.proofs.Ascending.{is_same, not_both, same_is}
+use Rattle.key_order.proofs.Ascending.{not_both}
 use Rattle.msdb_store.proofs.Databases.{at_item, beside_item, item_good}
+use Rattle.plain_laws.proofs.Truths.{first_of_both, second_of_both}
+use Rattle.plain_laws.proofs.Numbers.{is_number, number_is}
+use Rattle.model_laws.proofs.Texts.{same_text_is, text_is_same}
 
 -- ---- numbers and keys
 
-pub number_is : (a b : ℕ) → (a == b) ≡ true → a ≡ b
-number_is a b e = grind arith
-
-pub is_number : (a : ℕ) → (a == a) ≡ true
-is_number a = grind arith
-
-pub first_true : (a b : Bool) → (a && b) ≡ true → a ≡ true
-first_true true b e = refl
-first_true false b e = e
-
-pub second_true : (a b : Bool) → (a && b) ≡ true → b ≡ true
-second_true true b e = e
-second_true false b e = absurd (not_both (sym e))
-
 pub key_number : (t : Touch) (n : ℕ) (k : List ℕ) → has_key t n k ≡ true → t.number ≡ n
-key_number t n k e = number_is t.number n (first_true _ _ e)
+key_number t n k e = number_is t.number n (first_of_both _ _ e)
 
 pub key_text : (t : Touch) (n : ℕ) (k : List ℕ) → has_key t n k ≡ true → t.key ≡ k
-key_text t n k e = same_is t.key k (second_true (t.number == n) _ e)
+key_text t n k e = same_text_is t.key k (second_of_both (t.number == n) _ e)
 
 pub has_its : (t : Touch) → has_key t t.number t.key ≡ true
-has_its t = rw (is_number t.number) (is_same t.key)
+has_its t = rw (is_number t.number) (text_is_same t.key)
 
 first_tie : (a b : Ordering) → ordering_then a b ≡ Equal → a ≡ Equal
 first_tie Less b e = e

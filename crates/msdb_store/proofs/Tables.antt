@@ -1,7 +1,7 @@
 -- Tables, and what a store of them is.
 use Rattle.std.proofs.Common.{◌≡◌, ℕ, zero, suc, List, [], ◌∷◌, map, length, Option, Some, refl, sym, ◌∙◌, ap, subst, slice_get, slice_set}
 use Rattle.std.specs.List.{AllZip}
-use Rattle.std.proofs.lemmas.Option.{slice_get-map}
+use Rattle.std.proofs.lemmas.Option.{slice_get-map, same_Some}
 use Rattle.fp_model.specs.CheckpointText.{IsMsdbOf}
 use Rattle.fp_model.specs.declared.database.Msdb.{Msdb}
 use Rattle.fp_model.specs.declared.definitions.FieldDef.{FieldDef}
@@ -14,18 +14,10 @@ use Rattle.fp_model.specs.Settle.{with_msdb}
 use Rattle.fp_model.specs.State.{ascend, drop_key, put_by_key, key_of, segment_of, segment_after, with_segment, without_segment, is_below}
 use Rattle.fp_model.specs.declared.log.Item.{Item}
 use Rattle.fp_model.specs.declared.log.Item.TheVariants.{Segment}
-use Rattle.key_order.proofs.Ascending.{all_but, all_put, still_ascends, with_one_ascends}
 use Rattle.std.proofs.lemmas.List.{map-set}
 use Rattle.fp_model.specs.Texts.{same_text}
-
-head_is : {A : Type 0} (x y : A) (xs ys : List A) → x ∷ xs ≡ y ∷ ys → x ≡ y
-head_is x y xs ys e = cc
-
-tail_is : {A : Type 0} (x y : A) (xs ys : List A) → x ∷ xs ≡ y ∷ ys → xs ≡ ys
-tail_is x y xs ys e = cc
-
-some_is : {A : Type 0} (x y : A) → Some x ≡ Some y → x ≡ y
-some_is x y e = cc
+use Rattle.plain_laws.proofs.Lists.{same_head, same_tail}
+use Rattle.state_laws.proofs.Settling.{with_good, without_good}
 
 -- what a store is of doesn't rest on its room
 pub with_room : {defs : List MsdbDef} {store : Stored} (room : ℕ) → IsOf defs store
@@ -49,10 +41,10 @@ module _ {T : Type 0} (fields : T → List FieldDef) (msdb : T → Msdb) where
   belongs_at defs [] n t layouts each at = cc
   belongs_at [] (x ∷ xs) n t layouts each at = absurd each
   belongs_at (d ∷ ds) (x ∷ xs) zero t layouts each at =
-      subst (Belongs (d ∷ ds) 0) (some_is x t at) (record
-      { def = d; there = refl; same = head_is _ _ _ _ layouts; good = each.0 })
+      subst (Belongs (d ∷ ds) 0) (same_Some x t at) (record
+      { def = d; there = refl; same = same_head _ _ _ _ layouts; good = each.0 })
   belongs_at (d ∷ ds) (x ∷ xs) (suc n) t layouts each at =
-      let b = belongs_at ds xs n t (tail_is _ _ _ _ layouts) each.1 at in
+      let b = belongs_at ds xs n t (same_tail _ _ _ _ layouts) each.1 at in
       record { def = b.def; there = b.there; same = b.same; good = b.good }
 
   pub belongs : (defs : List MsdbDef) (tables : List T) (n : ℕ) (t : T) → IsOf defs (stored tables)
@@ -67,13 +59,13 @@ module _ {T : Type 0} (fields : T → List FieldDef) (msdb : T → Msdb) where
   each_with [] (x ∷ xs) n t def at good each = absurd each
   each_with (d ∷ ds) [] n t def at good each = absurd each
   each_with (d ∷ ds) (x ∷ xs) zero t def at good each =
-      (subst (λ e. IsMsdbOf e (msdb t)) (sym (some_is d def at)) good, each.1)
+      (subst (λ e. IsMsdbOf e (msdb t)) (sym (same_Some d def at)) good, each.1)
   each_with (d ∷ ds) (x ∷ xs) (suc n) t def at good each = (each.0, each_with ds xs n t def at good each.1)
 
   pub fields_with : (tables : List T) (n : ℕ) (old t : T) → slice_get tables n ≡ Some old → fields t ≡ fields old
       → map fields (slice_set tables n t) ≡ map fields tables
   fields_with [] n old t at same = refl
-  fields_with (x ∷ xs) zero old t at same = ap (λ f. f ∷ map fields xs) (same ∙ ap fields (sym (some_is x old at)))
+  fields_with (x ∷ xs) zero old t at same = ap (λ f. f ∷ map fields xs) (same ∙ ap fields (sym (same_Some x old at)))
   fields_with (x ∷ xs) (suc n) old t at same = ap (λ fs. fields x ∷ fs) (fields_with xs n old t at same)
 
   pub of_with : (defs : List MsdbDef) (tables : List T) (n : ℕ) (old t : T) (def : MsdbDef) → IsOf defs (stored tables)
@@ -124,22 +116,6 @@ after_in fields msdb defs tables n t k result of at is =
     ∙ sym (use_after fields msdb defs tables n t b.def (Some k) at b.there)
 
 -- ---- edits
-
-pub without_good : (def : MsdbDef) (msdb : Msdb) (key : List ℕ) → IsMsdbOf def msdb
-    → IsMsdbOf def (without_segment def key msdb)
-without_good def msdb key good = record {
-  lengths = all_but (key_of def.fields) (λ segment. length segment ≡ def.length) key msdb.segments good.lengths;
-  in_order = still_ascends (key_of def.fields) key msdb.segments good.in_order;
-}
-
-pub with_good : (def : MsdbDef) (segment : List ℕ) (msdb : Msdb) → length segment ≡ def.length → IsMsdbOf def msdb
-    → IsMsdbOf def (with_segment def segment msdb)
-with_good def segment msdb whole good = record {
-  lengths = all_put (key_of def.fields) (λ s. length s ≡ def.length) segment
-      (drop_key (key_of def.fields) (key_of def.fields segment) msdb.segments) whole
-      (all_but (key_of def.fields) (λ s. length s ≡ def.length) (key_of def.fields segment) msdb.segments good.lengths);
-  in_order = with_one_ascends (key_of def.fields) segment msdb.segments good.in_order;
-}
 
 module _ {T : Type 0} (fields : T → List FieldDef) (segments : T → List (List ℕ)) where
   abbrev pub msdb_in : T → Msdb
@@ -206,7 +182,7 @@ module _ {T : Type 0} (fields : T → List FieldDef) (segments : T → List (Lis
       → segments t ≡ put_by_key (key_of fs) (x ∷ xs) (drop_key (key_of fs) (key_of fs (x ∷ xs)) (segments old)))
       b.same is b.good.in_order in
       let whole : length (x ∷ xs) ≡ b.def.length = subst (λ d. length (x ∷ xs) ≡ d.length)
-      (some_is fit.0 b.def (sym fit.1 ∙ b.there)) (long fit.0 fit.2.segment) in
+      (same_Some fit.0 b.def (sym fit.1 ∙ b.there)) (long fit.0 fit.2.segment) in
       let both = changed defs tables n old t b with_it of at same (ap to_msdb put)
       (with_good b.def (x ∷ xs) (msdb_in old) whole b.good) in
       record { msdbs = both.0; of = both.1 }

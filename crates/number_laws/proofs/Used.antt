@@ -24,11 +24,11 @@ use Rattle.fp_model.specs.State.{start}
 use Rattle.fp_model.specs.Texts.{same_text}
 use Rattle.fp_model.proofs.HistoryLemmas.{entries_put, format_stays}
 use Rattle.serial_order.proofs.Lines.{last_leaves, lasts_push, refused_is_not_accepted}
-use Rattle.serial_order.proofs.Locks.{same_text_is}
-use Rattle.key_order.proofs.Ascending.{is_same}
 use Rattle.number_laws.specs.Once.{IsOnce, Repeats, Uses}
-use Rattle.number_laws.proofs.Lasting.{last_named, last_put}
+use Rattle.number_laws.proofs.Lasting.{last_named}
 use Rattle.number_laws.proofs.Places.{StandsIn, at_end, before, get_last, stands_before, stands_in, take_front, take_last}
+use Rattle.model_laws.proofs.Texts.{same_text_is, text_is_same}
+use Rattle.model_laws.proofs.Entries.{last_put}
 
 -- ---- what an entry says of its line
 
@@ -372,7 +372,7 @@ module _ (defs : Defs) (scripts : List Script) (h : History) (e : Entry) (next :
         where
           by : (t : Bool) → same_text a b ≡ t → (a ≡ b) ⊎ ¬ (a ≡ b)
           by true s = inl (same_text_is a b s)
-          by false s = inr (λ eq. absurd (not_same (sym (ap (same_text a) (sym eq) ∙ is_same a) ∙ s)))
+          by false s = inr (λ eq. absurd (not_same (sym (ap (same_text a) (sym eq) ∙ text_is_same a) ∙ s)))
             where
               not_same : true ≡ false → ⊥
               not_same x = cc

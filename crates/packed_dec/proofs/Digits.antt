@@ -10,10 +10,7 @@ use Rattle.std.proofs.Math.Nat.{pow-le-pow_right, pow-suc, pow-zero, mul-le-mul_
 use Rattle.fp_model.specs.Numbers.{is_digit, packed, packed_digits, packed_sign, signed_by}
 use Rattle.fp_model.specs.Texts.{value}
 use Rattle.packed_dec.specs.inside.Halves.{halves, pairs_value, magnitude}
-
--- one item more at the end
-pub length_snoc : (xs : List ℕ) (d : ℕ) → length (xs ++ d ∷ []) ≡ suc (length xs)
-length_snoc xs d = omega (arith, length-append xs (d ∷ []))
+use Rattle.plain_laws.proofs.Lists.{length_snoc}
 
 -- one digit more at the end
 pub value_snoc : (base : ℕ) (xs : List ℕ) (d : ℕ) → value base (xs ++ d ∷ []) ≡ value base xs * base + d
@@ -114,10 +111,6 @@ magnitude_snoc front last = rw (
   list_all-append is_digit (halves front) (last / 16 ∷ []),
   value_snoc 10 (halves front) (last / 16),
 ) refl
-
--- the first bytes with the next one
-pub take_snoc : (xs : List ℕ) (i : ℕ) → i < length xs → take (i + 1) xs ≡ take i xs ++ get_or xs i 0 ∷ []
-take_snoc xs i lt = take_more xs i 0 lt
 
 -- the bytes before one of at most eight
 pub prefix_below : (xs : List ℕ) (i : ℕ) → length xs ≤ 8 → ((j : ℕ) → get_or xs j 0 < 256) → i < length xs

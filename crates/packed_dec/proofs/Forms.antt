@@ -5,25 +5,6 @@ use Rattle.std.proofs.lemmas.Int.{ints}
 use Rattle.std.proofs.Math.Nat.{pow-le-pow_right, pow-suc, pow-zero}
 use Rattle.std.specs.Prelude.{ℤ, pos, negsuc, ◌≤ℤ◌, ◌<ℤ◌, None}
 use Rattle.fp_model.specs.Numbers.{pairs, packed_form, big_endian, unsigned_of}
-use Rattle.packed_dec.proofs.Digits.{length_snoc}
-
--- so many bytes
-pub length-pairs : (k n : ℕ) → length (pairs k n) ≡ k
-length-pairs zero n = refl
-length-pairs (suc k) n = omega (
-  arith,
-  length_snoc (pairs k (n / 100)) (n / 10 % 10 * 16 + n % 10),
-  length-pairs k (n / 100),
-)
-
--- so many bytes
-pub length-big_endian : (k n : ℕ) → length (big_endian k n) ≡ k
-length-big_endian zero n = refl
-length-big_endian (suc k) n = omega (
-  arith,
-  length_snoc (big_endian k (n / 256)) (n % 256),
-  length-big_endian k (n / 256),
-)
 
 -- the high digits fill the front, and the low ones the back
 pairs_apart : (k j high low : ℕ) → low < 100 ^ j → pairs (k + j) (high * 100 ^ j + low) ≡ pairs k high ++ pairs j low

@@ -1,25 +1,20 @@
 -- The form of a number, read again, is that number.
-use Rattle.std.proofs.Common.{◌≡◌, ℕ, zero, suc, ◌+◌, ◌*◌, ◌^◌, ◌/◌, ◌%◌, ◌-◌, ◌<◌, ◌≤◌, Bool, true, false, List, length, refl, sym, ap, subst, ◌∙◌, arith, Option, Some, None, pow-add}
+use Rattle.std.proofs.Common.{◌≡◌, ℕ, zero, suc, ◌+◌, ◌*◌, ◌^◌, ◌/◌, ◌%◌, ◌-◌, ◌<◌, ◌≤◌, true, List, length, refl, sym, ap, subst, ◌∙◌, arith, Some, pow-add}
 use Rattle.std.proofs.lemmas.Bool.{ltb-true, eqb-true, leb-true, and_parts}
 use Rattle.std.proofs.lemmas.Int.{to_z-of_z}
 use Rattle.std.proofs.lemmas.Nat.{from_be_bytes-to_be_bytes_2, from_be_bytes-to_be_bytes_4}
 use Rattle.std.proofs.Math.Nat.{pow-suc, pow-zero}
 use Rattle.std.specs.Int.{cast_signed, cast_unsigned, w16, w32, to_be_bytes}
 use Rattle.std.specs.List.{list_all}
-use Rattle.std.specs.Prelude.{ℤ, pos, negsuc, if◌then◌else◌, nat_lt, unsigned_abs, FitsSigned}
+use Rattle.std.specs.Prelude.{ℤ, pos, negsuc, nat_lt, unsigned_abs, FitsSigned}
 use Rattle.fp_model.specs.Numbers.{is_digit, is_length_of, pairs, packed, packed_form, packed_of, sign_of, signed_by, big_endian, unsigned_of, fits_twos, number, bytes_of, form_of, number_of}
 use Rattle.fp_model.specs.Texts.{value}
 use Rattle.fp_model.specs.declared.definitions.FieldKind.{FieldKind}
 use Rattle.fp_model.specs.declared.definitions.FieldKind.TheVariants.{C, X, H, F, P}
 use Rattle.packed_dec.specs.inside.Halves.{halves, pairs_value, magnitude}
-use Rattle.packed_dec.proofs.Digits.{length_snoc, value_snoc, digits_snoc, pair_snoc, packed_sign_snoc, good_end, signed_some}
-use Rattle.packed_dec.proofs.Forms.{length-pairs, length-big_endian}
-
--- a value that stands under a test
-pub under_test : {A : Type 0} (b : Bool) (o : Option A) (x : A) → (if b then o else None) ≡ Some x → (b ≡ true)
-    × (o ≡ Some x)
-under_test true o x e = (refl, e)
-under_test false o x e = absurd cc
+use Rattle.packed_dec.proofs.Digits.{value_snoc, digits_snoc, pair_snoc, packed_sign_snoc, good_end, signed_some}
+use Rattle.model_laws.proofs.Numerals.{length-big_endian, length-form}
+use Rattle.plain_laws.proofs.Options.{under_test}
 
 -- unsigned bytes
 value_big_endian : (k n : ℕ) → n < 256 ^ k → value 256 (big_endian k n) ≡ n
@@ -53,11 +48,6 @@ pub odd_digits : (size : ℕ) → 1 ≤ size → 10 ^ (2 * size - 1) ≡ 100 ^ (
 odd_digits size some =
     let twice : 2 * size - 1 ≡ 2 * (size - 1) + 1 = omega (arith, some) in
     rw (twice, pow-add 10 (2 * (size - 1)) 1, hundreds (size - 1)) refl
-
--- a form fills its field
-length-form : (size n sign : ℕ) → 1 ≤ size → length (packed_form size n sign) ≡ size
-length-form size n sign some =
-    omega (arith, some, length_snoc (pairs (size - 1) (n / 10)) (n % 10 * 16 + sign), length-pairs (size - 1) (n / 10))
 
 -- the packed form of a magnitude is read as it, with its sign
 form_is_number : (size n sign : ℕ) → 1 ≤ size → n < 10 ^ (2 * size - 1) → 10 ≤ sign → sign < 16

@@ -13,7 +13,8 @@ use Rattle.fp_model.specs.declared.definitions.AreaDef.{AreaDef}
 use Rattle.fp_model.specs.declared.definitions.DedbDef.{DedbDef}
 use Rattle.fp_model.specs.declared.definitions.Defs.{Defs}
 use Rattle.past_anchors.specs.inside.Places.{AreFew}
-use Rattle.past_anchors.proofs.Lists.{all_at, drop_more, get_left, get_right}
+use Rattle.past_anchors.proofs.Lists.{all_at, drop_more, get_right}
+use Rattle.plain_laws.proofs.Places.{get_left}
 
 -- ---- those of a database
 

@@ -21,16 +21,19 @@ use Rattle.fp_model.specs.declared.definitions.SegDef.{SegDef}
 use Rattle.past_anchors.specs.Databases.{AreDedbsOf, state_of}
 use Rattle.past_anchors.specs.inside.Purges.{AllFall, AreFalling, FallFrom, IsAreaIn, ends_below, moved_up, with_purged}
 use Rattle.past_anchors.proofs.Inserting.{beside, whole}
-use Rattle.state_laws.proofs.Areas.{alone, get_contains}
-use Rattle.state_laws.proofs.Lists.{both_true, first_true, none_is_not_some, second_true, some_is, true_is_not_false}
-use Rattle.state_laws.proofs.Purging.{dedb_changed, is_le, is_lt, lt_is, purge_good, set_set}
-use Rattle.state_laws.proofs.Ranges.{get_set_same}
-use Rattle.state_laws.proofs.Stands.{AtArea, at_area, ends_within, get_below}
+use Rattle.state_laws.proofs.Areas.{alone}
+use Rattle.state_laws.proofs.Lists.{true_is_not_false}
+use Rattle.state_laws.proofs.Purging.{dedb_changed, purge_good}
+use Rattle.state_laws.proofs.Stands.{AtArea, at_area, ends_within}
+use Rattle.std.proofs.lemmas.Bool.{and_from}
+use Rattle.plain_laws.proofs.Truths.{first_of_both, second_of_both}
+use Rattle.std.proofs.lemmas.Option.{none-some, same_Some, slice_get_within}
+use Rattle.plain_laws.proofs.Alls.{get_contains}
+use Rattle.plain_laws.proofs.Places.{get_set_same, last_at, set_twice}
+use Rattle.plain_laws.proofs.Numbers.{is_le, lt_is, lt_true}
+use Rattle.plain_laws.proofs.Lists.{length_snoc}
 
 -- ---- dropped from behind
-
-le_is : (m n : ℕ) → nat_le m n ≡ true → m ≤ n
-le_is m n e = grind (arith, nat_tests)
 
 not_less : (m n : ℕ) → nat_lt m n ≡ false → n ≤ m
 not_less m n e = grind (arith, nat_tests)
@@ -43,21 +46,13 @@ front_falls : (begin end : ℕ) (xs : List SeqItem) (x : SeqItem) → are_newest
 front_falls begin end [] x e = refl
 front_falls begin end (y ∷ xs) x e =
     let here : Bool = nat_le begin y.serial && nat_lt y.serial end in
-    both_true here (are_newest_first begin y.serial xs)
-    (first_true here (are_newest_first begin y.serial (xs ++ x ∷ [])) e)
-    (front_falls begin y.serial xs x (second_true here (are_newest_first begin y.serial (xs ++ x ∷ [])) e))
-
-length_push : {X : Type 0} (xs : List X) (x : X) → length (xs ++ x ∷ []) ≡ suc (length xs)
-length_push [] x = refl
-length_push (y ∷ xs) x = ap suc (length_push xs x)
-
-last_at : {X : Type 0} (xs : List X) (x : X) → slice_get (xs ++ x ∷ []) (length xs) ≡ Some x
-last_at [] x = refl
-last_at (y ∷ xs) x = last_at xs x
+    and_from here (are_newest_first begin y.serial xs)
+    (first_of_both here (are_newest_first begin y.serial (xs ++ x ∷ [])) e)
+    (front_falls begin y.serial xs x (second_of_both here (are_newest_first begin y.serial (xs ++ x ∷ [])) e))
 
 last_below : (begin : ℕ) (xs : List SeqItem) (x : SeqItem) → ends_below begin (xs ++ x ∷ []) ≡ nat_lt x.serial begin
 last_below begin xs x =
-    let at : length (xs ++ x ∷ []) - 1 ≡ length xs = omega (arith, length_push xs x) in
+    let at : length (xs ++ x ∷ []) - 1 ≡ length xs = omega (arith, length_snoc xs x) in
     ap (λ (k : ℕ). option_map_or (λ (item : SeqItem). nat_lt item.serial begin) (slice_get (xs ++ x ∷ []) k) false) at
     ∙ ap (λ o. option_map_or (λ (item : SeqItem). nat_lt item.serial begin) o false) (last_at xs x)
 
@@ -110,7 +105,7 @@ module _ (begin : ℕ) (r : Option SeqItem) (old new : List SeqItem)
       by : (r : Option SeqItem) → MatchOption r ((old ≡ []) × (new ≡ [])) (λ last. old ≡ new ++ last ∷ [])
           → length new < length old
       by None both = absurd (true_is_not_false (sym older ∙ ap (ends_below begin) both.0))
-      by (Some last) is = omega (arith, length_push new last, ap length is)
+      by (Some last) is = omega (arith, length_snoc new last, ap length is)
 
 -- where the last isn't older, none is
 late_ones : (begin low end : ℕ) (x : SeqItem) (xs : List SeqItem) → are_newest_first low end (x ∷ xs) ≡ true
@@ -121,10 +116,10 @@ late_ones begin low end x [] fall late =
     (le, rw (is_le begin x.serial le) refl)
 late_ones begin low end x (y ∷ ys) fall late =
     let rest : are_newest_first low x.serial (y ∷ ys) ≡ true =
-    second_true (nat_le low x.serial && nat_lt x.serial end) (are_newest_first low x.serial (y ∷ ys)) fall in
+    second_of_both (nat_le low x.serial && nat_lt x.serial end) (are_newest_first low x.serial (y ∷ ys)) fall in
     let less : y.serial < x.serial =
-    lt_is y.serial x.serial (second_true (nat_le low y.serial) (nat_lt y.serial x.serial)
-    (first_true (nat_le low y.serial && nat_lt y.serial x.serial) (are_newest_first low y.serial ys) rest)) in
+    lt_is y.serial x.serial (second_of_both (nat_le low y.serial) (nat_lt y.serial x.serial)
+    (first_of_both (nat_le low y.serial && nat_lt y.serial x.serial) (are_newest_first low y.serial ys) rest)) in
     let at : length (x ∷ y ∷ ys) - 1 ≡ suc (length (y ∷ ys) - 1) = omega arith in
     let last : ends_below begin (y ∷ ys) ≡ false =
     subst
@@ -149,13 +144,13 @@ roots_fall types ends (root ∷ roots) e =
     let b = are_rows types (child_types types 0) (map (map (seen_as types)) root.children) in
     let c = are_newest_first ends.begin ends.end root.seqs in
     let d = have_lengths types root.seqs in
-    let one = first_true (is_root types ends root) (list_all (is_root types ends) roots) e in (
+    let one = first_of_both (is_root types ends root) (list_all (is_root types ends) roots) e in (
       record {
         begin = ends.begin;
         end = ends.end;
-        newest = second_true (a && b) c (first_true ((a && b) && c) d one);
+        newest = second_of_both (a && b) c (first_of_both ((a && b) && c) d one);
       },
-      roots_fall types ends roots (second_true (is_root types ends root) (list_all (is_root types ends) roots) e),
+      roots_fall types ends roots (second_of_both (is_root types ends root) (list_all (is_root types ends) roots) e),
     )
 
 module _ (dedbs : List Dedb) (area : Area) (is : IsAreaIn dedbs area) where
@@ -163,11 +158,11 @@ module _ (dedbs : List Dedb) (area : Area) (is : IsAreaIn dedbs area) where
   its = at_area is.defs (beside is.defs dedbs) (whole is.defs dedbs is.good is.shape) area is.there
 
   pub in_dedbs : area.dedb < length dedbs
-  in_dedbs = get_below dedbs area.dedb its.dedb its.now
+  in_dedbs = slice_get_within dedbs area.dedb its.dedb its.now
 
   module _ (d : Dedb) (now : slice_get dedbs area.dedb ≡ Some d) where
     same : its.dedb ≡ d
-    same = some_is its.dedb d (sym its.now ∙ now)
+    same = same_Some its.dedb d (sym its.now ∙ now)
 
     ends_now : slice_get d.areas area.number ≡ Some its.ends
     ends_now = subst (λ (x : Dedb). slice_get x.areas area.number ≡ Some its.ends) same its.ends_now
@@ -176,7 +171,7 @@ module _ (dedbs : List Dedb) (area : Area) (is : IsAreaIn dedbs area) where
     good = subst (IsDedbOf its.def) same its.good
 
     pub in_areas : area.number < length d.areas
-    in_areas = get_below d.areas area.number its.ends ends_now
+    in_areas = slice_get_within d.areas area.number its.ends ends_now
 
     pub anchors_within : area.first_anchor + anchors_in area.def ≤ length d.anchors
     anchors_within =
@@ -187,14 +182,14 @@ module _ (dedbs : List Dedb) (area : Area) (is : IsAreaIn dedbs area) where
     pub fall_there : FallFrom area.first_anchor (anchors_in area.def) d.anchors
     fall_there at roots low high roots_now =
         let has : has_anchor (alone area) 0 at ≡ true =
-        both_true (0 == 0 && nat_le area.first_anchor at) (nat_lt at (area.first_anchor + anchors_in area.def))
-        (is_le area.first_anchor at low) (is_lt at (area.first_anchor + anchors_in area.def) high) in
+        and_from (0 == 0 && nat_le area.first_anchor at) (nat_lt at (area.first_anchor + anchors_in area.def))
+        (is_le area.first_anchor at low) (lt_true at (area.first_anchor + anchors_in area.def) high) in
         let its_roots : is_anchor its.def at its.ends roots ≡ true =
         good.each_anchor (alone area) its.ends at roots its.there ends_now has roots_now in
         let a = list_all (is_root its.def.segments its.ends) roots in
         let b = ascend (map (root_key its.def.segments) roots) in
         let c = list_all (λ root. anchor_of its.def (root_key its.def.segments root) == at) roots in
-        roots_fall its.def.segments its.ends roots (first_true a b (first_true (a && b) c its_roots))
+        roots_fall its.def.segments its.ends roots (first_of_both a b (first_of_both (a && b) c its_roots))
 
     -- ---- the state
 
@@ -219,7 +214,7 @@ module _ (dedbs : List Dedb) (area : Area) (is : IsAreaIn dedbs area) where
           ap (λ (ds : List Dedb). slice_get ds area.dedb) one ∙ get_set_same dedbs area.dedb (first e d) d now in
           dedb_changed area.dedb (second e) (with_dedb area.dedb (first e) db) (first e d) there
           ∙ ap (λ (ds : List Dedb). slice_set ds area.dedb (second e (first e d))) one
-          ∙ set_set dedbs area.dedb (first e d) (second e (first e d))
+          ∙ set_twice dedbs area.dedb (first e d) (second e (first e d))
           ∙ ap (λ (x : AreaEnds). slice_set dedbs area.dedb (with_purged area n x d)) ends_are_its
 
       pub purged_is : (new : Dedb)
@@ -256,7 +251,7 @@ module _ (defs : Defs) (set n : ℕ) where
     where
       there : (b : Bool) → (if b then None else slice_get (areas_of defs) (set - first_area_set)) ≡ Some area
           → Contains (areas_of defs) area
-      there true at = absurd (none_is_not_some area at)
+      there true at = absurd (none-some area at)
       there false at = get_contains (areas_of defs) (set - first_area_set) area at
 
   pub shape_purged : (dedbs next : List Dedb) → AreDefs defs → AreDedbsOf defs dedbs

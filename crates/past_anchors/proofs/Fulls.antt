@@ -13,9 +13,7 @@ use Rattle.past_anchors.specs.Fullness.{full_as}
 use Rattle.past_anchors.specs.inside.Fullness.{full_at}
 use Rattle.past_anchors.specs.declared.full.Full.{Full}
 use Rattle.past_anchors.proofs.Areas.{all_step, area, areas_step, length_areas}
-use Rattle.past_anchors.proofs.Lists.{get_there}
-use Rattle.state_laws.proofs.Lists.{some_is}
-use Rattle.state_laws.proofs.Stands.{get_below}
+use Rattle.std.proofs.lemmas.Option.{same_Some, slice_get-get_or, slice_get_within}
 
 -- ---- one area
 
@@ -83,10 +81,10 @@ module _ (db : Db) (inserts : List SeqInsert) where
   module _ (first_set dedb number before : ℕ) (areas : List AreaDef) (i : ℕ) (x : AreaDef) (k : ℕ)
       (at : slice_get areas i ≡ Some x) (k_is : k ≡ number) where
     less_at : i < length areas
-    less_at = get_below areas i x at
+    less_at = slice_get_within areas i x at
 
     x_is : get_or areas i x ≡ x
-    x_is = some_is (get_or areas i x) x (sym (get_there areas i x less_at) ∙ at)
+    x_is = same_Some (get_or areas i x) x (sym (slice_get-get_or areas i x less_at) ∙ at)
 
     pub walk_here : (s : Settlement) → Some s ≡ full_at db inserts (first_set + k) (area dedb number before x)
         → Some s ≡ first_full db inserts (first_set + number) (areas_from dedb number before (drop i areas))

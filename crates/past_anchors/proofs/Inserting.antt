@@ -23,16 +23,19 @@ use Rattle.fp_model.specs.declared.definitions.SegDef.{SegDef}
 use Rattle.past_anchors.specs.Databases.{AreDedbsOf, FitsCommit, HasRoom, state_of}
 use Rattle.past_anchors.specs.inside.Inserts.{one_later, with_numbered}
 use Rattle.past_anchors.proofs.Areas.{found_in, found_nowhere}
-use Rattle.past_anchors.proofs.Lists.{get_as}
 use Rattle.state_laws.specs.Parts.{FitsAnchorChange, FitsSeqInsert}
 use Rattle.state_laws.proofs.Areas.{alone, alone_there, lies_in, placed}
 use Rattle.state_laws.proofs.Committing.{anchors_good, anchors_leave_ends}
-use Rattle.state_laws.proofs.Lists.{both_true, each_at, first_true, second_true}
+use Rattle.state_laws.proofs.Lists.{each_at}
 use Rattle.state_laws.proofs.Numbering.{HasShapeAndRoom, one_insert, room_left}
-use Rattle.state_laws.proofs.Purging.{dedb_changed, ends_are, partner, set_set}
-use Rattle.state_laws.proofs.Ranges.{get_set_same}
-use Rattle.state_laws.proofs.Stands.{all_contained, ends_in, ends_within, found_passes, found_there, get_below, get_there}
+use Rattle.state_laws.proofs.Purging.{dedb_changed, ends_are, partner}
+use Rattle.state_laws.proofs.Stands.{all_contained, ends_in, ends_within}
 use Rattle.state_laws.proofs.Start.{start_good}
+use Rattle.std.proofs.lemmas.Bool.{and_from}
+use Rattle.plain_laws.proofs.Truths.{first_of_both, second_of_both}
+use Rattle.plain_laws.proofs.Alls.{found_is_there, found_passes}
+use Rattle.plain_laws.proofs.Places.{get_set_same, get_there, set_twice, stands_at}
+use Rattle.std.proofs.lemmas.Option.{slice_get_within}
 
 -- ---- the whole state
 
@@ -49,7 +52,7 @@ pub dedb_within : (defs : Defs) (dedbs : List Dedb) (n : ℕ) (def : DedbDef) �
     → slice_get defs.dedbs n ≡ Some def → n < length dedbs
 dedb_within defs dedbs n def shape defined =
     let d = partner IsDedbOf defs.dedbs dedbs n def shape defined in
-    get_below dedbs n d.0 d.1
+    slice_get_within dedbs n d.0 d.1
 
 pub dedb_good : (defs : Defs) (dedbs : List Dedb) (n : ℕ) (def : DedbDef) (d : Dedb) → AreDedbsOf defs dedbs
     → slice_get defs.dedbs n ≡ Some def → slice_get dedbs n ≡ Some d → IsDedbOf def d
@@ -60,7 +63,7 @@ pub its_def : (defs items : List DedbDef) (n k : ℕ) (def : DedbDef) → items 
     → def ≡ get_or items n def → slice_get defs k ≡ Some def
 its_def defs items n k def same is less at =
     subst (λ (m : ℕ). slice_get defs m ≡ Some def) is
-    (get_as defs n def less (at ∙ ap (λ (xs : List DedbDef). get_or xs n def) same))
+    (stands_at defs n def less (at ∙ ap (λ (xs : List DedbDef). get_or xs n def) same))
 
 -- its area that has an anchor, as it was found
 pub its_area : (dedb anchor : ℕ) (areas others : List AreaDef) (o : Option Area)
@@ -77,15 +80,15 @@ module _ (def : DedbDef) (d : Dedb) (good : IsDedbOf def d) (n anchor : ℕ) (ar
 
   there : Contains (areas_from 0 0 0 def.areas) (alone area)
   there = alone_there n 0 0 def.areas area
-      (found_there (λ a. has_anchor a n anchor) (areas_from n 0 0 def.areas) area found)
+      (found_is_there (λ a. has_anchor a n anchor) (areas_from n 0 0 def.areas) area found)
 
   has_alone : has_anchor (alone area) 0 anchor ≡ true
   has_alone =
       let last : Bool = nat_lt anchor (area.first_anchor + anchors_in area.def) in
-      let front = first_true (area.dedb == n && nat_le area.first_anchor anchor) last has in
-      both_true (0 == 0 && nat_le area.first_anchor anchor) last
-      (second_true (area.dedb == n) (nat_le area.first_anchor anchor) front)
-      (second_true (area.dedb == n && nat_le area.first_anchor anchor) last has)
+      let front = first_of_both (area.dedb == n && nat_le area.first_anchor anchor) last has in
+      and_from (0 == 0 && nat_le area.first_anchor anchor) last
+      (second_of_both (area.dedb == n) (nat_le area.first_anchor anchor) front)
+      (second_of_both (area.dedb == n && nat_le area.first_anchor anchor) last has)
 
   -- its number and definition
   area_at : slice_get def.areas area.number ≡ Some area.def
@@ -99,7 +102,7 @@ module _ (def : DedbDef) (d : Dedb) (good : IsDedbOf def d) (n anchor : ℕ) (ar
       good.areas area_at
 
   pub number_within : area.number < length d.areas
-  number_within = get_below d.areas area.number ends_there.0 ends_there.1
+  number_within = slice_get_within d.areas area.number ends_there.0 ends_there.1
 
   pub anchor_within : anchor < length d.anchors
   anchor_within =
@@ -126,7 +129,7 @@ module _ (def : DedbDef) (d : Dedb) (good : IsDedbOf def d) (n anchor : ℕ) (ar
       let a = list_all (is_root def.segments ends_there.0) roots in
       let b = ascend (map (root_key def.segments) roots) in
       let c = list_all (λ root. anchor_of def (root_key def.segments root) == anchor) roots in
-      second_true a b (first_true (a && b) c is)
+      second_of_both a b (first_of_both (a && b) c is)
 
 -- ---- one insert
 
@@ -157,8 +160,8 @@ module _ (defs : Defs) (msdbs : List Msdb) (dedbs : List Dedb) (i : SeqInsert) w
 
       dedb_is : area.dedb ≡ i.dedb
       dedb_is =
-          number_is area.dedb i.dedb (first_true (area.dedb == i.dedb) (nat_le area.first_anchor i.anchor)
-          (first_true (area.dedb == i.dedb && nat_le area.first_anchor i.anchor)
+          number_is area.dedb i.dedb (first_of_both (area.dedb == i.dedb) (nat_le area.first_anchor i.anchor)
+          (first_of_both (area.dedb == i.dedb && nat_le area.first_anchor i.anchor)
           (nat_lt i.anchor (area.first_anchor + anchors_in area.def))
           (found_passes (λ a. has_anchor a i.dedb i.anchor) (areas_from i.dedb 0 0 def.areas) area found)))
         where
@@ -205,7 +208,7 @@ module _ (defs : Defs) (msdbs : List Msdb) (dedbs : List Dedb) (i : SeqInsert) w
           ap (λ (n : ℕ). (with_dedb area.dedb (second e) (with_dedb n put db)).dedbs) (sym dedb_is)
           ∙ dedb_changed area.dedb (second e) (with_dedb area.dedb put db) (put d) changed
           ∙ ap (λ (ds : List Dedb). slice_set ds area.dedb (second e (put d))) one
-          ∙ set_set dedbs area.dedb (put d) (second e (put d))
+          ∙ set_twice dedbs area.dedb (put d) (second e (put d))
           ∙ ap (λ (x : Dedb). slice_set dedbs area.dedb x) both_are
 
       pub inserted : with_insert defs db i

@@ -1,39 +1,15 @@
 -- Lists: parts from a place on, elements of two lists one behind another, and a change of some elements in a row.
-use Rattle.std.proofs.Common.{◌≡◌, ℕ, zero, suc, ◌+◌, ◌-◌, ◌<◌, ◌≤◌, List, [], ◌∷◌, ◌++◌, map, length, take, drop, get_or, replicate, Some, refl, sym, ◌∙◌, ap, true, ◌==◌, slice_get, slice_set, arith, add-one, inr}
+use Rattle.std.proofs.Common.{◌≡◌, ℕ, zero, suc, ◌+◌, ◌-◌, ◌<◌, ◌≤◌, List, [], ◌∷◌, ◌++◌, map, length, take, drop, get_or, replicate, Some, refl, sym, ◌∙◌, ap, slice_get, slice_set, arith, add-one, inr}
 use Rattle.std.specs.Prelude.{OnOk, Result, Ok, Err}
 use Rattle.std.proofs.Math.Seq.{drop-cons}
 use Rattle.std.specs.List.{AllByRecursion}
-use Rattle.state_laws.proofs.Lists.{none_is_not_some, some_is}
-use Rattle.state_laws.proofs.Ranges.{get_outside}
+use Rattle.plain_laws.proofs.Places.{get_outside}
+use Rattle.std.proofs.lemmas.Option.{none-some, same_Some}
 
 pub drop_more : {X : Type 0} (xs : List X) (i : ℕ) (d : X) → i < length xs → drop i xs ≡ get_or xs i d ∷ drop (i + 1) xs
 drop_more xs i d less = drop-cons xs i d less ∙ ap (λ (n : ℕ). get_or xs i d ∷ drop n xs) (sym (add-one i))
 
-pub drop_all : {X : Type 0} (xs : List X) (i : ℕ) → length xs ≤ i → drop i xs ≡ []
-drop_all [] zero le = refl
-drop_all [] (suc i) le = refl
-drop_all (x ∷ xs) zero le = absurd (omega (arith, le))
-drop_all (x ∷ xs) (suc i) le = drop_all xs i (omega (arith, le))
-
-pub empty_of : {X : Type 0} (xs : List X) → (length xs == 0) ≡ true → xs ≡ []
-empty_of [] e = refl
-empty_of (x ∷ xs) e = absurd (is_not (length xs) e)
-  where
-    is_not : (n : ℕ) → (suc n == 0) ≡ true → ⊥
-    is_not n e = grind arith
-
-pub take_whole : {X : Type 0} (xs : List X) (i : ℕ) → length xs ≤ i → take i xs ≡ xs
-take_whole [] zero le = refl
-take_whole [] (suc i) le = refl
-take_whole (x ∷ xs) zero le = absurd (omega (arith, le))
-take_whole {X} (x ∷ xs) (suc i) le = ap (λ (ys : List X). x ∷ ys) (take_whole xs i (omega (arith, le)))
-
 -- ---- two lists
-
-pub get_left : {X : Type 0} (xs ys : List X) (k : ℕ) → k < length xs → slice_get (xs ++ ys) k ≡ slice_get xs k
-get_left [] ys k less = absurd (omega (arith, less))
-get_left (x ∷ xs) ys zero less = refl
-get_left (x ∷ xs) ys (suc k) less = get_left xs ys k (omega (arith, less))
 
 pub get_right : {X : Type 0} (xs ys : List X) (k n : ℕ) → n ≡ length xs → n ≤ k
     → slice_get (xs ++ ys) k ≡ slice_get ys (k - n)
@@ -50,15 +26,6 @@ pub all_at : {X : Type 0} (P : X → Type 0) (xs : List X) (i : ℕ) (d : X) →
 all_at P [] i d all less = absurd (omega (arith, less))
 all_at P (x ∷ xs) zero d all less = all.0
 all_at P (x ∷ xs) (suc i) d all less = all_at P xs i d all.1 (omega (arith, less))
-
-pub get_there : {X : Type 0} (xs : List X) (i : ℕ) (d : X) → i < length xs → slice_get xs i ≡ Some (get_or xs i d)
-get_there [] i d less = absurd (omega (arith, less))
-get_there (x ∷ xs) zero d less = refl
-get_there (x ∷ xs) (suc i) d less = get_there xs i d (omega (arith, less))
-
--- an element that was read
-pub get_as : {X : Type 0} (xs : List X) (i : ℕ) (x : X) → i < length xs → x ≡ get_or xs i x → slice_get xs i ≡ Some x
-get_as {X} xs i x less is = get_there xs i x less ∙ ap (λ (y : X). Some y) (sym is)
 
 pub map_more : {X Y : Type 0} (f : X → Y) (xs : List X) (i : ℕ) (d : X) → i < length xs
     → map f (take (i + 1) xs) ≡ map f (take i xs) ++ f (get_or xs i d) ∷ []
@@ -109,8 +76,8 @@ module _ {X : Type 0} (change : X → X) where
   -- the next of them
   pub next_changed : (first n end : ℕ) (xs : List X) (x : X) → end ≡ first + n → slice_get xs end ≡ Some x
       → changed_to first (suc n) (suc end) xs ≡ slice_set (changed_to first n end xs) end (change x)
-  next_changed first n end [] x is at = absurd (none_is_not_some x at)
-  next_changed zero zero zero (y ∷ ys) x is at = ap (λ (z : X). change z ∷ ys) (some_is y x at)
+  next_changed first n end [] x is at = absurd (none-some x at)
+  next_changed zero zero zero (y ∷ ys) x is at = ap (λ (z : X). change z ∷ ys) (same_Some y x at)
   next_changed zero zero (suc end) (y ∷ ys) x is at = absurd (omega (arith, is))
   next_changed zero (suc n) zero (y ∷ ys) x is at = absurd (omega (arith, is))
   next_changed zero (suc n) (suc end) (y ∷ ys) x is at =

@@ -18,9 +18,13 @@ use Rattle.fp_model.specs.declared.definitions.Defs.{Defs}
 use Rattle.fp_model.specs.declared.definitions.SegDef.{SegDef}
 use Rattle.past_anchors.specs.Databases.{AreDedbsOf, FitsAnchor, any_ends, state_of}
 use Rattle.state_laws.proofs.Areas.{placed}
-use Rattle.state_laws.proofs.Lists.{both_true, each_at, first_true, second_true}
-use Rattle.state_laws.proofs.Purging.{ends_are, is_le, is_lt, lt_is, partner}
-use Rattle.state_laws.proofs.Stands.{area_of_anchor, get_below}
+use Rattle.state_laws.proofs.Lists.{each_at}
+use Rattle.state_laws.proofs.Purging.{ends_are, partner}
+use Rattle.state_laws.proofs.Stands.{area_of_anchor}
+use Rattle.std.proofs.lemmas.Bool.{and_from}
+use Rattle.plain_laws.proofs.Truths.{first_of_both, second_of_both}
+use Rattle.std.proofs.lemmas.Option.{slice_get_within}
+use Rattle.plain_laws.proofs.Numbers.{is_le, lt_is, lt_true}
 
 -- ---- wider ends
 
@@ -28,14 +32,14 @@ newest_wider : (begin end last : ℕ) (items : List SeqItem) → end ≤ last �
     → are_newest_first 0 last items ≡ true
 newest_wider begin end last [] le e = refl
 newest_wider begin end last (item ∷ items) le e =
-    let front = first_true (nat_le begin item.serial && nat_lt item.serial end)
+    let front = first_of_both (nat_le begin item.serial && nat_lt item.serial end)
     (are_newest_first begin item.serial items) e in
-    let less = lt_is item.serial end (second_true (nat_le begin item.serial) (nat_lt item.serial end) front) in
-    both_true (nat_le 0 item.serial && nat_lt item.serial last) (are_newest_first 0 item.serial items)
-    (both_true (nat_le 0 item.serial) (nat_lt item.serial last) (is_le 0 item.serial (omega arith))
-    (is_lt item.serial last (omega (arith, less, le))))
+    let less = lt_is item.serial end (second_of_both (nat_le begin item.serial) (nat_lt item.serial end) front) in
+    and_from (nat_le 0 item.serial && nat_lt item.serial last) (are_newest_first 0 item.serial items)
+    (and_from (nat_le 0 item.serial) (nat_lt item.serial last) (is_le 0 item.serial (omega arith))
+    (lt_true item.serial last (omega (arith, less, le))))
     (newest_wider begin item.serial item.serial items (omega arith)
-    (second_true (nat_le begin item.serial && nat_lt item.serial end) (are_newest_first begin item.serial items) e))
+    (second_of_both (nat_le begin item.serial && nat_lt item.serial end) (are_newest_first begin item.serial items) e))
 
 root_wider : (types : List SegDef) (ends : AreaEnds) (root : Root) → ends.end ≤ 2 ^ 62
     → is_root types ends root ≡ true → is_root types any_ends root ≡ true
@@ -45,20 +49,20 @@ root_wider types ends root last e =
     let c = are_newest_first ends.begin ends.end root.seqs in
     let d = have_lengths types root.seqs in
     let wide = are_newest_first 0 (2 ^ 64) root.seqs in
-    let abc = first_true ((a && b) && c) d e in
-    both_true ((a && b) && wide) d
-    (both_true (a && b) wide (first_true (a && b) c abc)
-    (newest_wider ends.begin ends.end (2 ^ 64) root.seqs (omega (arith, last)) (second_true (a && b) c abc)))
-    (second_true ((a && b) && c) d e)
+    let abc = first_of_both ((a && b) && c) d e in
+    and_from ((a && b) && wide) d
+    (and_from (a && b) wide (first_of_both (a && b) c abc)
+    (newest_wider ends.begin ends.end (2 ^ 64) root.seqs (omega (arith, last)) (second_of_both (a && b) c abc)))
+    (second_of_both ((a && b) && c) d e)
 
 roots_wider : (types : List SegDef) (ends : AreaEnds) (roots : List Root) → ends.end ≤ 2 ^ 62
     → list_all (is_root types ends) roots ≡ true → list_all (is_root types any_ends) roots ≡ true
 roots_wider types ends [] last e = refl
 roots_wider types ends (root ∷ roots) last e =
-    both_true (is_root types any_ends root) (list_all (is_root types any_ends) roots)
-    (root_wider types ends root last (first_true (is_root types ends root) (list_all (is_root types ends) roots) e))
+    and_from (is_root types any_ends root) (list_all (is_root types any_ends) roots)
+    (root_wider types ends root last (first_of_both (is_root types ends root) (list_all (is_root types ends) roots) e))
     (roots_wider types ends roots last
-    (second_true (is_root types ends root) (list_all (is_root types ends) roots) e))
+    (second_of_both (is_root types ends root) (list_all (is_root types ends) roots) e))
 
 anchor_wider : (def : DedbDef) (anchor : ℕ) (ends : AreaEnds) (roots : List Root) → ends.end ≤ 2 ^ 62
     → is_anchor def anchor ends roots ≡ true → is_anchor def anchor any_ends roots ≡ true
@@ -67,17 +71,17 @@ anchor_wider def anchor ends roots last e =
     let b = ascend (map (root_key def.segments) roots) in
     let c = list_all (λ root. anchor_of def (root_key def.segments root) == anchor) roots in
     let wide = list_all (is_root def.segments any_ends) roots in
-    let ab = first_true (a && b) c e in
-    both_true (wide && b) c
-    (both_true wide b (roots_wider def.segments ends roots last (first_true a b ab)) (second_true a b ab))
-    (second_true (a && b) c e)
+    let ab = first_of_both (a && b) c e in
+    and_from (wide && b) c
+    (and_from wide b (roots_wider def.segments ends roots last (first_of_both a b ab)) (second_of_both a b ab))
+    (second_of_both (a && b) c e)
 
 -- ---- what stands
 
 at_its_anchor : (def : DedbDef) (d : Dedb) (anchor : ℕ) (roots : List Root) → IsDedbOf def d
     → slice_get d.anchors anchor ≡ Some roots → is_anchor def anchor any_ends roots ≡ true
 at_its_anchor def d anchor roots good at =
-    let low = get_below d.anchors anchor roots at in
+    let low = slice_get_within d.anchors anchor roots at in
     let long : length d.anchors ≡ anchor_count def = good.anchors in
     let has = area_of_anchor 0 0 0 def.areas anchor (omega arith) (omega (arith, low, long)) in
     let p = placed 0 0 0 def.areas has.area has.there in

@@ -16,16 +16,17 @@ use Rattle.fp_model.specs.Calls.{Target, OnMsdb, OnDedb, Nowhere, dedb_target, t
 use Rattle.fp_model.specs.DedbCalls.{anchor_at, anchors_searched, anchors_up, held_place, position_of, root_named}
 use Rattle.fp_model.specs.Exits.{anchor_of}
 use Rattle.fp_model.specs.Order.{Place}
-use Rattle.fp_model.specs.State.{anchor_count, numbers_up}
+use Rattle.fp_model.specs.State.{anchor_count}
 use Rattle.fp_model.specs.WellFormed.{IsDedbDef}
 use Rattle.fp_model.specs.Workspace.{DedbPosition, Workspace}
 use Rattle.dedb_calls.specs.Anchors.{Sees, held_at}
 use Rattle.dedb_calls.specs.declared.anchors.HeldAnchor.{HeldAnchor}
-use Rattle.dedb_calls.proofs.AnchorLemmas.{same_numbers}
 use Rattle.past_calls.specs.inside.Needs.{anchors_at, lacking, lacking_on, may_need}
 use Rattle.past_calls.specs.Progress.{Progress}
 use Rattle.past_calls.specs.Targets.{FitsWork, IfDedb, LeavesMsdbs, LeavesOthers, anchor_needed}
 use Rattle.past_calls.proofs.NeedLemmas.{Among, called}
+use Rattle.model_laws.proofs.Numberings.{numbers_length}
+use Rattle.plain_laws.proofs.Numbers.{both_numbers}
 
 -- ---- counts
 
@@ -71,13 +72,9 @@ at_most has (n ∷ ns) = by (has n) (at_most has ns)
 
 -- ---- the anchors of a call
 
-as_many : (n from : ℕ) → length (numbers_up n from) ≡ n
-as_many zero from = refl
-as_many (suc n) from = ap suc (as_many n (from + 1))
-
 module _ (def : DedbDef) (dedb : ℕ) (good : IsDedbDef def) where
   up : (from : ℕ) → length (anchors_up def dedb from) ≤ 65536
-  up from = let same = as_many (anchor_count def - from) from in let few = good.anchors in omega (arith, same, few)
+  up from = let same = numbers_length (anchor_count def - from) from in let few = good.anchors in omega (arith, same, few)
 
   searched : (p : DedbPosition) (g : Get) (key : Option (List ℕ)) → length (anchors_searched def dedb p g key) ≤ 65536
   searched p get.Unique None = up 0
@@ -137,7 +134,7 @@ module _ (now : Db) (old new : Progress) (c : Call) (d a : ℕ) (own : new.own �
     where
       by : (b : Bool) → (dedb == d && n == a) ≡ b → is_some (held_at new.anchors dedb n) ≡ true
       by true same =
-          let names = same_numbers dedb n d a same in
+          let names = both_numbers dedb n d a same in
           ap (λ k. is_some (held_at new.anchors k n)) names.0 ∙ ap (λ k. is_some (held_at new.anchors d k)) names.1
           ∙ has
       by false other = ap is_some (others dedb n other) ∙ was

@@ -1,7 +1,6 @@
 mod AloneLemmas
 mod AnswerLemmas
 mod BeginLemmas
-mod FitLemmas
 pub mod HandLemmas
 mod NeedLemmas
 mod PastLemmas

@@ -8,7 +8,8 @@ use Rattle.fp_model.specs.declared.database.Msdb.{Msdb}
 use Rattle.fp_model.specs.declared.definitions.MsdbDef.{MsdbDef}
 use Rattle.fp_model.specs.State.{segment_after, segment_of}
 use Rattle.past_segments.specs.Times.{Past, database_at}
-use Rattle.past_segments.specs.Pasts.{ArePastsOf, IsPastOf, databases_at}
+use Rattle.past_segments.specs.Pasts.{ArePastsOf, databases_at}
+use Rattle.plain_laws.proofs.Options.{shown_has}
 
 -- what holds of each holds of the one that is found
 found_has : {X : Type 0} (P : X → Type 0) (p : X → Bool) (xs : List X) (x : X) → AllByRecursion P xs
@@ -23,12 +24,6 @@ found_has {X} P p (y ∷ ys) x each found = by (p y) found (λ later. found_has 
 first_has : {X : Type 0} (P : X → Type 0) (xs : List X) (x : X) → AllByRecursion P xs → slice_get xs 0 ≡ Some x → P x
 first_has P [] x each at = absurd (cc)
 first_has P (y ∷ ys) x each at = let same : y ≡ x = cc in subst P same each.0
-
--- a segment that is shown
-shown_has : (n : ℕ) (o : Option (Bor (List ℕ))) (found : Option (List ℕ)) → option_copied o ≡ found
-    → ((s : List ℕ) → found ≡ Some s → length s ≡ n) → IfSome o (λ s. length s.now ≡ n)
-shown_has n None found is has = tt
-shown_has n (Some s) found is has = has s.now (sym is)
 
 module _ (def : MsdbDef) (msdb : Msdb) (is : IsMsdbOf def msdb) where
   pub looked_whole : (o : Option (Bor (List ℕ))) (key : List ℕ)
@@ -56,16 +51,6 @@ as_many [] pasts n each within = absurd (omega (arith, within))
 as_many (d ∷ ds) [] n each within = absurd each
 as_many (d ∷ ds) (p ∷ ps) zero each within = omega arith
 as_many (d ∷ ds) (p ∷ ps) (suc n) each within = omega (arith, as_many ds ps n each.1 (omega (arith, within)))
-
-pub past_of : (defs : List MsdbDef) (pasts : List Past) (n : ℕ) (def : MsdbDef) (past : Past) → ArePastsOf defs pasts
-    → slice_get defs n ≡ Some def → slice_get pasts n ≡ Some past → IsPastOf def past
-past_of [] pasts n def past each at there = absurd (cc)
-past_of (d ∷ ds) [] n def past each at there = absurd each
-past_of (d ∷ ds) (p ∷ ps) zero def past each at there =
-    let same : d ≡ def = cc in
-    let one : p ≡ past = cc in
-    subst (λ x. IsPastOf x past) same (subst (IsPastOf d) one each.0)
-past_of (d ∷ ds) (p ∷ ps) (suc n) def past each at there = past_of ds ps n def past each.1 at there
 
 pub def_good : (P : MsdbDef → Type 0) (defs : List MsdbDef) (n : ℕ) (def : MsdbDef) → AllByRecursion P defs
     → slice_get defs n ≡ Some def → P def

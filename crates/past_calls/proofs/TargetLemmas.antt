@@ -1,5 +1,5 @@
 -- Which calls fit what a transaction keeps, for callers.
-use Rattle.std.proofs.Common.{◌≡◌, refl, ap, sym, ◌∙◌, subst, arith, ℕ, zero, suc, ◌+◌, ◌-◌, ◌≤◌, List, [], ◌∷◌, length, Option, Some, None, slice_get}
+use Rattle.std.proofs.Common.{◌≡◌, refl, ap, sym, ◌∙◌, subst, arith, ℕ, ◌+◌, ◌-◌, ◌≤◌, length, Option, Some, None, slice_get}
 use Rattle.std.specs.Option.{option_map_or}
 use Rattle.dedb_calls.proofs.CallLemmas.{fits_on}
 use Rattle.dedb_calls.proofs.TargetLemmas.{behind_msdbs, on_msdb}
@@ -11,18 +11,13 @@ use Rattle.fp_model.specs.Calls.{Target, OnDedb, Nowhere, database_of, target_of
 use Rattle.fp_model.specs.FitCalls.{FitsTarget, IsMsdbCall, IsTied}
 use Rattle.past_calls.specs.Progress.{Progress, dedbs_in}
 use Rattle.past_calls.specs.Targets.{FitsWork}
+use Rattle.plain_laws.proofs.Places.{beyond_none}
 
 -- a call to a main storage database fits it
 pub msdb_fits : (defs : Defs) (work : Progress) (c : Call) → IsMsdbCall defs.msdbs c
     → FitsWork (target_of defs (database_of c)) work c
 msdb_fits defs work c (def, there, fits) =
     subst (λ (t : Target). FitsWork t work c) (sym (on_msdb defs (database_of c) def there)) fits
-
--- nothing stands beyond the end alone
-beyond_none : {A : Type 0} (xs : List A) (n : ℕ) → slice_get xs n ≡ None → length xs ≤ n
-beyond_none [] n none = omega arith
-beyond_none (x ∷ xs) zero none = absurd (cc)
-beyond_none (x ∷ xs) (suc n) none = let later = beyond_none xs n none in omega (arith, later)
 
 fits_at : (defs : Defs) (shown : ℕ → Option ℕ) (work : Progress) (c : Call) (n : ℕ)
     → IsTied defs shown work.own

@@ -25,6 +25,8 @@ use Rattle.past_calls.specs.Targets.{LeavesDedbs}
 use Rattle.segment_keys.specs.Keys.{is_among}
 use Rattle.past_calls.specs.inside.Replies.{FitsChange, FitsQueue, mark_in, mark_of, own_behind}
 use Rattle.segment_keys.specs.Keys.{is_marked}
+use Rattle.plain_laws.proofs.Alls.{all_push}
+use Rattle.plain_laws.proofs.Truths.{swapped}
 
 -- ---- positions
 
@@ -55,11 +57,6 @@ positions_with (d ∷ ds) (p ∷ ps) (suc n) def position each at fits =
     (each.0, positions_with ds ps n def position each.1 at fits)
 
 -- ---- the queue
-
-all_more : {X : Type 0} (P : X → Type 0) (xs : List X) (x : X) → AllByRecursion P xs → P x
-    → AllByRecursion P (xs ++ x ∷ [])
-all_more P [] x each one = (one, tt)
-all_more P (y ∷ ys) x each one = (each.0, all_more P ys x each.1 one)
 
 module _ (defs : List MsdbDef) (def : MsdbDef) (n : ℕ) (there : slice_get defs n ≡ Some def) where
   of_it : (P : MsdbDef → Type 0) (m : ℕ) → m ≡ n → P def → OfMsdb defs m P
@@ -95,12 +92,6 @@ module _ (defs : List MsdbDef) (def : MsdbDef) (n : ℕ) (there : slice_get defs
       by true e = e refl
       by false e = refl
   marks (deferred.Dlet number k) fits m other at key = refl
-
-swapped : (a b : Bool) → (b || a) ≡ (a || (b || false))
-swapped true true = refl
-swapped true false = refl
-swapped false true = refl
-swapped false false = refl
 
 -- ---- settling
 
@@ -171,7 +162,7 @@ keeps defs def n (change.Queued d) old new is there fits own anchors changed = r
       (positions_with defs.msdbs old.own.msdbs n def _ is.positions there
       (position_fits defs.msdbs old.own.msdbs n def is.positions there));
   deferred = subst (λ one. AllByRecursion (IsFitDeferred defs.msdbs) one.deferred) (sym own)
-      (all_more (IsFitDeferred defs.msdbs) old.own.deferred d is.deferred (fit_deferred defs.msdbs def n there d fits));
+      (all_push (IsFitDeferred defs.msdbs) old.own.deferred d is.deferred (fit_deferred defs.msdbs def n there d fits));
   changes = λ m other at key.
       changed (Segment m key)
       ∙ ap (λ marked. marked || is_among old.changed (Segment m key))

@@ -35,7 +35,11 @@ use Rattle.past_replay.specs.declared.running.Rerun.{Rerun}
 use Rattle.past_replay.specs.declared.running.Running.{Running}
 use Rattle.past_replay.specs.inside.Running.{IsAsking, IsEnd, IsKept, IsUnderWay, alone_on, end_with, ended, look_of, now_of, rules_in}
 use Rattle.past_replay.specs.States.{AreStatesOf}
-use Rattle.past_replay.proofs.ListLemmas.{drop_at, drop_none, drop_whole, each_has, is_within, stands}
+use Rattle.past_replay.proofs.ListLemmas.{drop_none, each_has}
+use Rattle.plain_laws.proofs.Places.{drop_got, get_there}
+use Rattle.plain_laws.proofs.Lists.{drop_whole}
+use Rattle.std.proofs.lemmas.Option.{same_Some, slice_get_within}
+use Rattle.plain_laws.proofs.Options.{some_isnt_none}
 
 -- ---- its end
 
@@ -47,8 +51,8 @@ all_used notes used ending = by (nat_lt used (length notes)) refl
     by : (b : Bool) → nat_lt used (length notes) ≡ b
         → with_all (drop used notes) ending ≡ (if b then Stuck else Ends ending)
     by true e =
-        let there = stands notes used (grind (arith, nat_tests)) in
-        ap (λ ns. with_all ns ending) (drop_at notes used there.0 there.1)
+        let there = get_there notes used (grind (arith, nat_tests)) in
+        ap (λ ns. with_all ns ending) (drop_got notes used there.0 there.1)
     by false e = ap (λ ns. with_all ns ending) (drop_whole notes used (grind (arith, nat_tests)))
 
 -- ---- states
@@ -58,7 +62,7 @@ noted : (it : Rerun) (now : Db) (states : List Db) (start : Db) (note : ℕ)
     → AreStatesOf it.pasts.now it.anchors.now it.place now states → note ≤ it.place
     → (serial.state_at start states note).msdbs ≡ databases_at note it.pasts.now
 noted it now states start note are le =
-    let there = stands states note (omega (arith, are.count, le)) in
+    let there = get_there states note (omega (arith, are.count, le)) in
     ap (λ o. (unwrap_or o start).msdbs) there.1 ∙ are.each note there.0 there.1
 
 -- types as they were shown
@@ -177,12 +181,6 @@ module _ (it : Rerun) (count : ℕ) (running : Running) (s : IsUnderWay it count
 
 -- ---- a call
 
-some_none : {A : Type 0} (x : A) → Some x ≡ None → ⊥
-some_none x e = cc
-
-some_same : {A : Type 0} (x y : A) → Some x ≡ Some y → x ≡ y
-some_same x y e = cc
-
 -- a look by a note
 abbrev by_note : ℕ → ℕ → Look
 by_note used note = record { place = note; used = used + 1 }
@@ -208,8 +206,8 @@ module _ (it : Rerun) (count : ℕ) (running : Running) (call : Call) (a : IsAsk
     where
       no_note : (o : Option ℕ) → option_map (by_note running.used) o ≡ None → o ≡ None
       no_note None e = refl
-      no_note (Some note) e = absurd (some_none (by_note running.used note) e)
-  stuck false none now states go = absurd (some_none (record { place = it.place; used = running.used }) none)
+      no_note (Some note) e = absurd (some_isnt_none (by_note running.used note) e)
+  stuck false none now states go = absurd (some_isnt_none (record { place = it.place; used = running.used }) none)
 
   pub lacks : full_cost a.under.script.statements ≤ 10000 → (looks : Bool) → looks ≡ unheld
       → look_of it running.used looks ≡ None → IsEnd it running ends.Stuck
@@ -249,21 +247,21 @@ module _ (it : Rerun) (count : ℕ) (running : Running) (call : Call) (a : IsAsk
         by : (o : Option ℕ) → slice_get it.notes.now running.used ≡ o → option_map (by_note running.used) o ≡ Some look
             → called (rules_in it) now states it.message.now true point call notes_left go
             ≡ go behind (drop look.used it.notes.now)
-        by None there e = absurd (some_none look (sym e))
+        by None there e = absurd (some_isnt_none look (sym e))
         by (Some note) there e =
-            let same : by_note running.used note ≡ look = some_same (by_note running.used note) look e in
+            let same : by_note running.used note ≡ look = same_Some (by_note running.used note) look e in
             let start : Db = (rules_in it).start in
             let le : note ≤ it.place
             = each_has (λ note. note ≤ it.place) it.notes.now running.used note notes there in
             ap (λ (ns : List ℕ). called (rules_in it) now states it.message.now true point call ns go)
-            (drop_at it.notes.now running.used note there)
+            (drop_got it.notes.now running.used note there)
             ∙ ap (λ p. go p (drop (running.used + 1) it.notes.now))
             (replied now (serial.state_at start states note) are.here note (noted it now states start note are le)
             (ap (λ (l : Look). l.place) same))
             ∙ ap (λ (l : Look). go behind (drop l.used it.notes.now)) same
     looked false seen now states are go =
         let first : Look = record { place = it.place; used = running.used } in
-        let same : first ≡ look = some_same first look seen in
+        let same : first ≡ look = same_Some first look seen in
         ap (λ p. go p notes_left)
         (replied now now are.here it.place (ap (λ (db : Db). db.msdbs) are.here) (ap (λ (l : Look). l.place) same))
         ∙ ap (λ (l : Look). go behind (drop l.used it.notes.now)) same
@@ -274,14 +272,14 @@ module _ (it : Rerun) (count : ℕ) (running : Running) (call : Call) (a : IsAsk
       where
         by : (o : Option ℕ) → slice_get it.notes.now running.used ≡ o → option_map (by_note running.used) o ≡ Some look
             → look.used ≤ length it.notes.now
-        by None there e = absurd (some_none look (sym e))
+        by None there e = absurd (some_isnt_none look (sym e))
         by (Some note) there e =
-            let same : by_note running.used note ≡ look = some_same (by_note running.used note) look e in
+            let same : by_note running.used note ≡ look = same_Some (by_note running.used note) look e in
             let used : running.used + 1 ≡ look.used = ap (λ (l : Look). l.used) same in
-            omega (arith, used, is_within it.notes.now running.used note there)
+            omega (arith, used, slice_get_within it.notes.now running.used note there)
     used_within false seen =
         let first : Look = record { place = it.place; used = running.used } in
-        let used : running.used ≡ look.used = ap (λ (l : Look). l.used) (some_same first look seen) in
+        let used : running.used ≡ look.used = ap (λ (l : Look). l.used) (same_Some first look seen) in
         omega (arith, used, a.under.used)
 
     -- What it keeps behind the call.

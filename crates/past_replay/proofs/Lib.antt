@@ -3,5 +3,5 @@ mod GoingLemmas
 mod HoldingLemmas
 mod Keeping
 mod ListLemmas
-mod SettledLemmas
+pub mod SettledLemmas
 mod ShapeLemmas

@@ -16,12 +16,6 @@ slots_later : (place : ℕ) (slots : List Slot) → AllByRecursion (λ (slot : S
 slots_later place [] all = tt
 slots_later place (slot ∷ slots) all = (versions_later place slot.versions all.0, slots_later place slots all.1)
 
--- nothing does from behind the next one either
-pub settled_later : (place : ℕ) (pasts : List Past) → AllByRecursion (IsSettledBy place) pasts
-    → AllByRecursion (IsSettledBy (place + 1)) pasts
-settled_later place [] all = tt
-settled_later place (past ∷ pasts) all = (slots_later place past.slots all.0, settled_later place pasts all.1)
-
 -- and the databases stay as they are
 pub shows_next : (place : ℕ) (pasts : List Past) → AllByRecursion (IsSettledBy place) pasts
     → databases_at (place + 1) pasts ≡ databases_at place pasts

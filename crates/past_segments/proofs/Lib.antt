@@ -2,3 +2,4 @@ pub mod PastLaws
 mod PastLemmas
 mod Showing
 mod Values
+pub mod OfPasts

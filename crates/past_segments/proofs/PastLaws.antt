@@ -1,5 +1,5 @@
 -- What values show behind the last of them.
-use Rattle.std.proofs.Common.{◌≡◌, ℕ, ◌+◌, ◌≤◌, List, [], ◌∷◌, None, refl, ap, Bool, true, false, ◌∙◌, ◌&&◌, ◌||◌, arith}
+use Rattle.std.proofs.Common.{◌≡◌, ℕ, ◌+◌, ◌≤◌, List, [], ◌∷◌, None, refl, ap, Bool, true, false, ◌∙◌, ◌&&◌, arith}
 use Rattle.std.specs.Prelude.{nat_le}
 use Rattle.std.specs.List.{AllByRecursion, cons_option, list_any}
 use Rattle.std.proofs.lemmas.Bool.{leb-false}
@@ -7,25 +7,15 @@ use Rattle.fp_model.specs.Texts.{same_text}
 use Rattle.past_segments.specs.Times.{EndsBy, IsSettledBy, Past, database_at, is_late, segments_at, value_at}
 use Rattle.past_segments.specs.declared.slot.Slot.{Slot}
 use Rattle.past_segments.specs.declared.slot.Version.{Version}
-use Rattle.key_order.proofs.Ascending.{is_same}
 use Rattle.past_segments.proofs.PastLemmas.{is_late_slot, late_in, value_later}
-
-first_no : (a b : Bool) → (a || b) ≡ false → a ≡ false
-first_no true b e = e
-first_no false b e = refl
-
-second_no : (a b : Bool) → (a || b) ≡ false → b ≡ false
-second_no true b e = absurd (yes e)
-  where
-    yes : true ≡ false → ⊥
-    yes e = cc
-second_no false b e = e
+use Rattle.plain_laws.proofs.Truths.{first_false, second_false}
+use Rattle.model_laws.proofs.Texts.{text_is_same}
 
 ends : (place : ℕ) (vs : List Version) → late_in (place + 1) vs ≡ false → EndsBy place vs
 ends place [] e = tt
 ends place (v ∷ vs) e = (
-  omega (arith, leb-false (place + 1) v.from (first_no (nat_le (place + 1) v.from) (late_in (place + 1) vs) e)),
-  ends place vs (second_no (nat_le (place + 1) v.from) (late_in (place + 1) vs) e),
+  omega (arith, leb-false (place + 1) v.from (first_false (nat_le (place + 1) v.from) (late_in (place + 1) vs) e)),
+  ends place vs (second_false (nat_le (place + 1) v.from) (late_in (place + 1) vs) e),
 )
 
 all_end : (place : ℕ) (slots : List Slot)
@@ -33,10 +23,10 @@ all_end : (place : ℕ) (slots : List Slot)
     → AllByRecursion (λ (slot : Slot). EndsBy place slot.versions) slots
 all_end place [] never = tt
 all_end place (slot ∷ slots) never = (
-  ends place slot.versions (its (same_text slot.key slot.key) (is_same slot.key)
-      (first_no (is_late_slot (place + 1) slot.key slot) (list_any (is_late_slot (place + 1) slot.key) slots)
+  ends place slot.versions (its (same_text slot.key slot.key) (text_is_same slot.key)
+      (first_false (is_late_slot (place + 1) slot.key slot) (list_any (is_late_slot (place + 1) slot.key) slots)
       (never slot.key))),
-  all_end place slots (λ key. second_no (is_late_slot (place + 1) key slot)
+  all_end place slots (λ key. second_false (is_late_slot (place + 1) key slot)
       (list_any (is_late_slot (place + 1) key) slots) (never key)),
 )
   where

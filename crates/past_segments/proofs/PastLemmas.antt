@@ -11,8 +11,12 @@ use Rattle.past_segments.specs.Times.{AreSlots, EndsBy, FitsSlot, Rises, segment
 use Rattle.past_segments.specs.inside.Times.{EndsBefore}
 use Rattle.past_segments.specs.declared.slot.Slot.{Slot}
 use Rattle.past_segments.specs.declared.slot.Version.{Version}
-use Rattle.key_order.proofs.Ascending.{IsAscending, all_above, below_differs, differ, differs_back, dropped_none, place_behind, put_in as put_in_order, same_is, tail_ascends, with_one_ascends}
+use Rattle.key_order.proofs.Ascending.{IsAscending, all_above, below_differs, differ, differs_back, dropped_none, place_behind, put_in as put_in_order, tail_ascends, with_one_ascends}
 use Rattle.past_segments.proofs.Showing as showing
+use Rattle.model_laws.proofs.Texts.{same_text_is}
+use Rattle.std.proofs.lemmas.Option.{same_Some}
+use Rattle.plain_laws.proofs.Places.{keys_set}
+use Rattle.plain_laws.proofs.Alls.{all_set}
 
 abbrev pub key : Slot → List ℕ
 key slot = slot.key
@@ -24,7 +28,7 @@ with_value place so_far v = if nat_le v.from place then v.segment else so_far
 
 some_has : (P : List ℕ → Type 0) (o : Option (List ℕ)) (s : List ℕ) → IfSome o P → o ≡ Some s → P s
 some_has P None s has e = cc
-some_has P (Some t) s has e = subst P (showing.some_same t s e) has
+some_has P (Some t) s has e = subst P (same_Some t s e) has
 
 value_has : (place : ℕ) (P : List ℕ → Type 0) (so_far : Option (List ℕ)) (vs : List Version) → IfSome so_far P
     → AllByRecursion (λ (v : Version). IfSome v.segment P) vs → IfSome (fold (with_value place) so_far vs) P
@@ -160,8 +164,8 @@ module _ (count : ℕ) (slots : List Slot) (fits : AreSlots count slots) (k : Li
 pub changed : (count : ℕ) (slots : List Slot) (n : ℕ) (x y : Slot) → AreSlots count slots → slice_get slots n ≡ Some x
     → key y ≡ key x → FitsSlot count y → AreSlots count (slice_set slots n y)
 changed count slots n x y fits at is one = record {
-  in_order = ap ascend (showing.ascends_set key slots n x y at is) ∙ fits.in_order;
-  each = showing.all_set (FitsSlot count) slots n y fits.each one;
+  in_order = ap ascend (keys_set key slots n x y at is) ∙ fits.in_order;
+  each = all_set (FitsSlot count) slots n y fits.each one;
 }
 
 pub shows_same : (p : ℕ) (slots : List Slot) (n : ℕ) (x y : Slot) → slice_get slots n ≡ Some x
@@ -174,10 +178,6 @@ shows_same_in p slots n y e = showing.insert_none key (λ l. l) (λ (slot : Slot
 
 -- ---- what came of a change
 
-pub on_ok : {A E : Type 0} {P Q : Type 0} (r : Result A E) → (P → Q) → OnOk r P → OnOk r Q
-on_ok (Ok done) f p = f p
-on_ok (Err e) f p = tt
-
 pub on_err : {A E : Type 0} {P Q : Type 0} (r : Result A E) → (P → Q) → OnErr r P → OnErr r Q
 on_err (Ok done) f p = tt
 on_err (Err e) f p = f p
@@ -187,11 +187,6 @@ pub either : {A E : Type 0} {X : Type 0} (P : X → Type 0) (r : Result A E) (ne
     → OnErr r (new ≡ other) → P one → P other → P new
 either P (Ok done) new one other ok err p q = subst P (sym ok) p
 either P (Err e) new one other ok err p q = subst P (sym err) q
-
-pub set_itself : {X : Type 0} (xs : List X) (n : ℕ) (x : X) → slice_get xs n ≡ Some x → slice_set xs n x ≡ xs
-set_itself [] n x e = refl
-set_itself (y ∷ ys) zero x e = ap (λ z. z ∷ ys) (sym (showing.some_is_here y x e))
-set_itself (y ∷ ys) (suc n) x e = ap (λ zs. y ∷ zs) (set_itself ys n x e)
 
 -- ---- late values
 
@@ -210,7 +205,7 @@ pub late_set : (place : ℕ) (k l : List ℕ) (slots : List Slot) (n : ℕ) (x y
     → same_text (key x) k ≡ true → key y ≡ key x → same_text k l ≡ false
     → list_any (is_late_slot place l) (slice_set slots n y) ≡ list_any (is_late_slot place l) slots
 late_set place k l slots n x y at e is other =
-    let same : key x ≡ k = same_is (key x) k e in
+    let same : key x ≡ k = same_text_is (key x) k e in
     showing.any_set (is_late_slot place l) slots n x y at
     (not_late place k l y (is ∙ same) other ∙ sym (not_late place k l x same other))
 
@@ -223,7 +218,7 @@ late_insert place k l slots n y is other = showing.any_insert (is_late_slot plac
 pub same_here : (xs : List Slot) (n : ℕ) (x y : Slot) (k : List ℕ) → slice_get xs n ≡ Some x → slice_get xs n ≡ Some y
     → same_text (key x) k ≡ true → same_text (key y) k ≡ true
 same_here xs n x y k one other e = subst (λ z. same_text (key z) k ≡ true)
-    (showing.some_is_here x y (sym one ∙ other)) e
+    (same_Some x y (sym one ∙ other)) e
 
 -- ---- no late value of a key
 
@@ -244,7 +239,7 @@ others_differ : (k : List ℕ) (x : Slot) (xs : List Slot) → same_text (key x)
     → AllByRecursion (λ (y : Slot). same_text (key y) k ≡ false) xs
 others_differ k x [] e all = tt
 others_differ k x (y ∷ ys) e all = (
-  differs_back k (key y) (below_differs k (key y) (subst (λ l. is_below l (key y) ≡ true) (same_is (key x) k e) all.0)),
+  differs_back k (key y) (below_differs k (key y) (subst (λ l. is_below l (key y) ≡ true) (same_text_is (key x) k e) all.0)),
   others_differ k x ys e all.1,
 )
 
@@ -254,7 +249,7 @@ pub late_no_more : (place : ℕ) (k : List ℕ) (xs : List Slot) (n : ℕ) (x y 
     → list_any (is_late_slot place k) (slice_set xs n y) ≡ false
 late_no_more place k [] n x y up at is e early = refl
 late_no_more place k (z ∷ zs) zero x y up at is e early =
-    let same : same_text (key z) k ≡ true = ap (λ w. same_text (key w) k) (showing.some_is_here z x is) ∙ e in
+    let same : same_text (key z) k ≡ true = ap (λ w. same_text (key w) k) (same_Some z x is) ∙ e in
     let later = differ_all place k zs (others_differ k z zs same (all_above key z zs up)) in
     by (same_text (key y) k) refl later
   where

@@ -1,12 +1,14 @@
 -- What elements in ascending order show, each a segment of its own key or nothing: searches and edits of what is shown.
-use Rattle.std.proofs.Common.{◌≡◌, ℕ, zero, suc, List, [], ◌∷◌, map, drop, Option, Some, None, refl, sym, ◌∙◌, ap, subst, Bool, true, false, slice_get, slice_set, arith}
+use Rattle.std.proofs.Common.{◌≡◌, ℕ, zero, suc, List, [], ◌∷◌, drop, Option, Some, None, refl, sym, ◌∙◌, ap, subst, Bool, true, false, slice_get, slice_set, arith}
 use Rattle.std.specs.Prelude.{find, if◌then◌else◌}
 use Rattle.std.specs.Option.{option_and_then}
 use Rattle.std.specs.List.{AllByRecursion, cons_option, filter_map, insert, list_any}
 use Rattle.fp_model.specs.State.{is_below, put_by_key, drop_key}
 use Rattle.fp_model.specs.Texts.{same_text}
 use Rattle.key_order.specs.Places.{IsPlace, if_same}
-use Rattle.key_order.proofs.Ascending.{IsAscending, all_above, below_differs, below_trans, differs_back, not_above, not_below_itself, place_behind, same_is, same_or_above, some_is, none_is_not_some, tail_ascends}
+use Rattle.key_order.proofs.Ascending.{IsAscending, all_above, below_differs, below_trans, differs_back, not_above, not_below_itself, place_behind, same_or_above, tail_ascends}
+use Rattle.std.proofs.lemmas.Option.{none-some, same_Some}
+use Rattle.model_laws.proofs.Texts.{same_text_is}
 
 -- ---- segments that all are above a key
 
@@ -64,7 +66,7 @@ module _ {X : Type 0} (key : X → List ℕ) (skey : List ℕ → List ℕ) (f :
   above_from k x (y ∷ ys) not_less all = (by (same_text (key x) k) refl, above_from k x ys not_less all.1)
     where
       by : (t : Bool) → same_text (key x) k ≡ t → is_below k (key y) ≡ true
-      by true e = subst (λ l. is_below l (key y) ≡ true) (same_is (key x) k e) all.0
+      by true e = subst (λ l. is_below l (key y) ≡ true) (same_text_is (key x) k e) all.0
       by false e = below_trans k (key x) (key y) (same_or_above (key x) k not_less e) all.0
 
   above_behind : (k : List ℕ) (x : X) (xs : List X) → is_below (key x) k ≡ false → IsAscending key (x ∷ xs) → Agree xs
@@ -113,7 +115,7 @@ module _ {X : Type 0} (key : X → List ℕ) (skey : List ℕ → List ℕ) (f :
       (above, above_from k y ys (not_below_first k y ys p) (all_above key y ys up))
     where
       differs : (t : Bool) → same_text (key y) k ≡ t → t ≡ false
-      differs true e = absurd (none_is_not_some y (sym none ∙ ap (λ (t : Bool). if t then Some y else None) e))
+      differs true e = absurd (none-some y (sym none ∙ ap (λ (t : Bool). if t then Some y else None) e))
       differs false e = refl
 
       above : is_below k (key y) ≡ true
@@ -146,7 +148,7 @@ module _ {X : Type 0} (key : X → List ℕ) (skey : List ℕ → List ℕ) (f :
       → find (λ s. is_below k (skey s)) (filter_map f xs) ≡ slice_get (filter_map f (drop (suc n) xs)) 0
   first_shown k [] n x up agree p at e = cc
   first_shown k (y ∷ ys) zero x up agree p at e =
-      let is : key y ≡ k = ap key (some_is y x at) ∙ same_is (key x) k e in
+      let is : key y ≡ k = ap key (same_Some y x at) ∙ same_text_is (key x) k e in
       passed_above k y (filter_map f ys) (f y) agree.0 refl (ap (is_below k) is ∙ not_below_itself k)
       ∙ first_found skey k (filter_map f ys) (above_behind k y ys (not_below_first k y ys p) up agree.1)
   first_shown k (y ∷ ys) (suc n) x up agree p at e =
@@ -171,7 +173,7 @@ module _ {X : Type 0} (key : X → List ℕ) (skey : List ℕ → List ℕ) (f :
       → filter_map f (slice_set xs n x) ≡ filter_map f xs
   set_same [] n y x at e = refl
   set_same (z ∷ zs) zero y x at e =
-      ap (λ o. cons_option o (filter_map f zs)) (e ∙ ap f (sym (some_is z y at)))
+      ap (λ o. cons_option o (filter_map f zs)) (e ∙ ap f (sym (same_Some z y at)))
   set_same (z ∷ zs) (suc n) y x at e = ap (cons_option (f z)) (set_same zs n y x at e)
 
   -- one more that shows nothing
@@ -214,7 +216,7 @@ module _ {X : Type 0} (key : X → List ℕ) (skey : List ℕ → List ℕ) (f :
       → filter_map f (slice_set xs n x) ≡ put_by_key skey t (drop_key skey k (filter_map f xs))
   put_over k [] n y x t up agree p at same e is = cc
   put_over k (z ∷ zs) zero y x t up agree p at same e is =
-      let here : same_text (key z) k ≡ true = ap (λ w. same_text (key w) k) (some_is z y at) ∙ same in
+      let here : same_text (key z) k ≡ true = ap (λ w. same_text (key w) k) (same_Some z y at) ∙ same in
       ap (λ o. cons_option o (filter_map f zs)) e
       ∙ sym (ap (put_by_key skey t) (gone k z (filter_map f zs) (f z) agree.0 refl here)
       ∙ comes_first skey k t (filter_map f zs) is (above_behind k z zs (not_below_first k z zs p) up agree.1))
@@ -229,7 +231,7 @@ module _ {X : Type 0} (key : X → List ℕ) (skey : List ℕ → List ℕ) (f :
       → filter_map f (slice_set xs n x) ≡ drop_key skey k (filter_map f xs)
   drop_over k [] n y x up agree p at same e = cc
   drop_over k (z ∷ zs) zero y x up agree p at same e =
-      let here : same_text (key z) k ≡ true = ap (λ w. same_text (key w) k) (some_is z y at) ∙ same in
+      let here : same_text (key z) k ≡ true = ap (λ w. same_text (key w) k) (same_Some z y at) ∙ same in
       ap (λ o. cons_option o (filter_map f zs)) e
       ∙ sym (gone k z (filter_map f zs) (f z) agree.0 refl here
       ∙ all_kept skey k (filter_map f zs) (above_behind k z zs (not_below_first k z zs p) up agree.1))
@@ -250,12 +252,6 @@ module _ {X : Type 0} (key : X → List ℕ) (skey : List ℕ → List ℕ) (f :
 
 -- ---- all of them, any of them
 
-pub all_set : {X : Type 0} (P : X → Type 0) (xs : List X) (n : ℕ) (x : X) → AllByRecursion P xs → P x
-    → AllByRecursion P (slice_set xs n x)
-all_set P [] n x all one = tt
-all_set P (y ∷ ys) zero x all one = (one, all.1)
-all_set P (y ∷ ys) (suc n) x all one = (all.0, all_set P ys n x all.1 one)
-
 pub all_insert : {X : Type 0} (P : X → Type 0) (xs : List X) (n : ℕ) (x : X) → AllByRecursion P xs → P x
     → AllByRecursion P (insert xs n x)
 all_insert P [] zero x all one = (one, tt)
@@ -266,13 +262,13 @@ all_insert P (y ∷ ys) (suc n) x all one = (all.0, all_insert P ys n x all.1 on
 pub all_there : {X : Type 0} (P : X → Type 0) (xs : List X) (n : ℕ) (x : X) → AllByRecursion P xs
     → slice_get xs n ≡ Some x → P x
 all_there P [] n x all at = cc
-all_there P (y ∷ ys) zero x all at = subst P (some_is y x at) all.0
+all_there P (y ∷ ys) zero x all at = subst P (same_Some y x at) all.0
 all_there P (y ∷ ys) (suc n) x all at = all_there P ys n x all.1 at
 
 pub any_set : {X : Type 0} (t : X → Bool) (xs : List X) (n : ℕ) (y x : X) → slice_get xs n ≡ Some y → t x ≡ t y
     → list_any t (slice_set xs n x) ≡ list_any t xs
 any_set t [] n y x at e = refl
-any_set t (z ∷ zs) zero y x at e = rw (e ∙ ap t (sym (some_is z y at))) refl
+any_set t (z ∷ zs) zero y x at e = rw (e ∙ ap t (sym (same_Some z y at))) refl
 any_set t (z ∷ zs) (suc n) y x at e = rw (any_set t zs n y x at e) refl
 
 pub any_insert : {X : Type 0} (t : X → Bool) (xs : List X) (n : ℕ) (x : X) → t x ≡ false
@@ -281,16 +277,3 @@ any_insert t [] zero x e = rw e refl
 any_insert t [] (suc n) x e = rw e refl
 any_insert t (z ∷ zs) zero x e = rw e refl
 any_insert t (z ∷ zs) (suc n) x e = rw (any_insert t zs n x e) refl
-
--- keys ascend where an element of the same key took the place of another
-pub ascends_set : {X : Type 0} (key : X → List ℕ) (xs : List X) (n : ℕ) (y x : X) → slice_get xs n ≡ Some y
-    → key x ≡ key y → map key (slice_set xs n x) ≡ map key xs
-ascends_set key [] n y x at e = refl
-ascends_set key (z ∷ zs) zero y x at e = ap (λ k. k ∷ map key zs) (e ∙ ap key (sym (some_is z y at)))
-ascends_set key (z ∷ zs) (suc n) y x at e = ap (λ ks. key z ∷ ks) (ascends_set key zs n y x at e)
-
-pub some_same : (s t : List ℕ) → Some s ≡ Some t → s ≡ t
-some_same s t e = some_is s t e
-
-pub some_is_here : {X : Type 0} (x y : X) → Some x ≡ Some y → x ≡ y
-some_is_here x y e = some_is x y e

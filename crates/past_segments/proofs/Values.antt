@@ -10,6 +10,9 @@ use Rattle.past_segments.specs.Times.{EndsBy, Rises, value_at}
 use Rattle.past_segments.specs.inside.Times.{EndsBefore, reaches, value_before}
 use Rattle.past_segments.specs.declared.slot.Version.{Version}
 use Rattle.key_order.proofs.Ascending.{all_at, not_both, stands_there}
+use Rattle.plain_laws.proofs.Places.{last_at}
+use Rattle.plain_laws.proofs.Lists.{length_snoc}
+use Rattle.std.proofs.lemmas.Option.{slice_get_within}
 
 -- ---- up to a place
 
@@ -178,14 +181,6 @@ not_reached place (v ∷ vs) up e =
 
 -- ---- without the last
 
-pub length_last : {X : Type 0} (xs : List X) (x : X) → length (xs ++ x ∷ []) ≡ suc (length xs)
-length_last [] x = refl
-length_last (y ∷ ys) x = ap suc (length_last ys x)
-
-pub last_at : {X : Type 0} (xs : List X) (x : X) → slice_get (xs ++ x ∷ []) (length xs) ≡ Some x
-last_at [] x = refl
-last_at (y ∷ ys) x = last_at ys x
-
 -- what was taken from behind, where the values reached a place
 pub popped : (place : ℕ) (r : Option Version) (old new : List Version)
     → MatchOption r ((old ≡ []) × (new ≡ [])) (λ last. old ≡ new ++ last ∷ []) → reaches place old ≡ true
@@ -195,20 +190,15 @@ popped place (Some last) old new gone e = (
   last,
   gone,
   reached place (new ++ last ∷ []) (length (new ++ last ∷ [])) last
-      refl (subst (λ k. slice_get (new ++ last ∷ []) k ≡ Some last) (omega (arith, length_last new last)) (last_at new last))
+      refl (subst (λ k. slice_get (new ++ last ∷ []) k ≡ Some last) (omega (arith, length_snoc new last)) (last_at new last))
       (sym (ap (reaches place) gone) ∙ e),
 )
-
-pub within_of : {X : Type 0} (xs : List X) (n : ℕ) (x : X) → slice_get xs n ≡ Some x → n < length xs
-within_of [] n x e = cc
-within_of (y ∷ ys) zero x e = omega (arith)
-within_of (y ∷ ys) (suc n) x e = omega (arith, within_of ys n x e)
 
 -- what is put in the place of the last one, where the values reach a place and none is behind it
 module _ (place : ℕ) (vs : List Version) (m : ℕ) (x : Version) (is : m ≡ length vs)
     (at : slice_get vs (m - 1) ≡ Some x) (e : reaches place vs ≡ true) (ends : EndsBy place vs) where
   whole : suc (m - 1) ≡ length vs
-  whole = omega (arith, is, within_of vs (m - 1) x at)
+  whole = omega (arith, is, slice_get_within vs (m - 1) x at)
 
   same : x.from ≡ place
   same = omega (arith, reached place vs m x is at e, last_ends vs (m - 1) x whole at place ends)

@@ -15,12 +15,14 @@ use Rattle.past_segments.specs.Times.{EndsBy, IsSettledBy, Past, database_at, is
 use Rattle.past_segments.specs.declared.slot.Slot.{Slot}
 use Rattle.past_segments.specs.declared.slot.Version.{Version}
 use Rattle.past_segments.proofs.PastLaws.{settled, shows_on}
-use Rattle.key_order.proofs.Ascending.{same_is, stands_there}
+use Rattle.key_order.proofs.Ascending.{stands_there}
 use Rattle.past_settling.specs.Queues.{OnFound}
 use Rattle.past_settling.specs.inside.Queues.{LeavesAll, TakesBack, any_names, is_it, late_at, names}
 use Rattle.past_settling.specs.declared.fault.QueueFault.{QueueFault}
 use Rattle.past_settling.specs.declared.fault.QueueFault.TheVariants as queue
-use Rattle.past_settling.proofs.QueueLemmas.{get_other, get_set, map_same}
+use Rattle.past_settling.proofs.QueueLemmas.{map_same}
+use Rattle.plain_laws.proofs.Places.{get_set, set_elsewhere}
+use Rattle.model_laws.proofs.Texts.{same_text_is}
 
 module _ (pasts : List Past) (place n j : ℕ) (d : Past) (same : j ≡ n) (less : j < length pasts) where
   abbrev it : Past
@@ -53,7 +55,7 @@ module _ (pasts : List Past) (place n j : ℕ) (d : Past) (same : j ≡ n) (less
       both : (m : ℕ) (k : List ℕ) (a b : Bool) → (n == m) ≡ a → same_text key k ≡ b → (a && b) ≡ true
           → late_at place (slice_set pasts j y) m k ≡ false
       both m k true true e f named =
-          at_it y m k (grind (arith, nat_tests)) ∙ ap (is_late place y) (sym (same_is key k f)) ∙ none
+          at_it y m k (grind (arith, nat_tests)) ∙ ap (is_late place y) (sym (same_text_is key k f)) ∙ none
       both m k true false e f named = cc
       both m k false b e f named = cc
 
@@ -67,7 +69,7 @@ module _ (pasts : List Past) (place n j : ℕ) (d : Past) (same : j ≡ n) (less
           at_it y m k is ∙ late k other ∙ sym (was_it m k is)
       one m k false e other =
           ap (λ o. option_map_or (λ (past : Past). is_late place past k) o false)
-          (get_other pasts j m y (differ m e))
+          (set_elsewhere pasts j m y (differ m e))
 
 -- ---- one call more
 
@@ -130,12 +132,6 @@ nothing_back place defs pasts = record {
   others = λ n k e. refl;
   counts = refl;
 }
-
-pub take_whole : {X : Type 0} (xs : List X) (n : ℕ) → length xs ≤ n → take n xs ≡ xs
-take_whole [] zero le = refl
-take_whole [] (suc n) le = refl
-take_whole (x ∷ xs) zero le = absurd (omega (arith, le))
-take_whole (x ∷ xs) (suc n) le = ap (λ ys. x ∷ ys) (take_whole xs n (omega (arith, le)))
 
 -- ---- all as before
 

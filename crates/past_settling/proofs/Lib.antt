@@ -1,3 +1,3 @@
-mod BackLemmas
+pub mod BackLemmas
 mod OneLemmas
 mod QueueLemmas

@@ -1,8 +1,7 @@
 -- A change of one key keeps its database one of the definition, at every place.
-use Rattle.std.proofs.Common.{refl, ◌≡◌, ℕ, ◌<◌, ◌≤◌, List, [], ◌∷◌, length, Bool, true, false, Option, Some, None, sym, ◌∙◌, ap, subst, arith}
-use Rattle.std.specs.Prelude.{find, if◌then◌else◌, IfSome, Result, Ok, Err, OnOk, OnErr, nat_lt}
+use Rattle.std.proofs.Common.{refl, ◌≡◌, ℕ, ◌<◌, ◌≤◌, List, [], ◌∷◌, length, Bool, true, false, Option, Some, None, sym, ◌∙◌, ap, subst}
+use Rattle.std.specs.Prelude.{find, if◌then◌else◌, IfSome, Result, Ok, Err, OnOk, OnErr}
 use Rattle.std.proofs.Common.{◌⊎◌, inl, inr}
-use Rattle.std.proofs.lemmas.Bool.Decides.{nat_tests}
 use Rattle.std.specs.List.{AllByRecursion}
 use Rattle.fp_model.specs.CheckpointText.{IsMsdbOf}
 use Rattle.fld_calls.specs.declared.arguments.SettleFault.{SettleFault}
@@ -12,26 +11,18 @@ use Rattle.fp_model.specs.Settle.{absent}
 use Rattle.fp_model.specs.WellFormed.{IsMsdbDef}
 use Rattle.past_settling.specs.inside.Settling.{Gives, IsChanged, IsFieldCall}
 use Rattle.fld_calls.proofs.Kept.{has_key, list_keeps}
-use Rattle.fp_model.specs.State.{drop_key, key_length, key_of, segment_of, with_segment, without_segment}
+use Rattle.fp_model.specs.State.{key_length, key_of, segment_of, without_segment}
 use Rattle.fp_model.specs.declared.database.Msdb.{Msdb}
 use Rattle.fp_model.specs.declared.definitions.MsdbDef.{MsdbDef}
 use Rattle.past_segments.specs.Pasts.{IsPastOf}
 use Rattle.past_segments.specs.Times.{Past, database_at}
-use Rattle.key_order.proofs.Ascending.{all_but, all_put, same_is, still_ascends, with_one_ascends}
+use Rattle.key_order.proofs.Ascending.{all_but, still_ascends}
 use Rattle.fp_model.specs.Texts.{same_text}
 use Rattle.std.specs.Option.{option_copied}
 use Rattle.std.proofs.Common.{Bor}
-
-pub with_good : (def : MsdbDef) (bytes : List ℕ) (msdb : Msdb) → length bytes ≡ def.length → IsMsdbOf def msdb
-    → IsMsdbOf def (with_segment def bytes msdb)
-with_good def bytes msdb whole good = record {
-  lengths =
-      all_put (key_of def.fields) (λ segment. length segment ≡ def.length) bytes
-      (drop_key (key_of def.fields) (key_of def.fields bytes) msdb.segments) whole
-      (all_but (key_of def.fields) (λ segment. length segment ≡ def.length) (key_of def.fields bytes) msdb.segments
-      good.lengths);
-  in_order = with_one_ascends (key_of def.fields) bytes msdb.segments good.in_order;
-}
+use Rattle.std.proofs.lemmas.Bool.{cases_lt}
+use Rattle.model_laws.proofs.Texts.{same_text_is}
+use Rattle.plain_laws.proofs.Options.{shown_has}
 
 pub without_good : (def : MsdbDef) (key : List ℕ) (msdb : Msdb) → IsMsdbOf def msdb
     → IsMsdbOf def (without_segment def key msdb)
@@ -39,13 +30,6 @@ without_good def key msdb good = record {
   lengths = all_but (key_of def.fields) (λ segment. length segment ≡ def.length) key msdb.segments good.lengths;
   in_order = still_ascends (key_of def.fields) key msdb.segments good.in_order;
 }
-
-before_or : (p place : ℕ) → (p < place) ⊎ (place ≤ p)
-before_or p place = by (nat_lt p place) refl
-  where
-    by : (t : Bool) → nat_lt p place ≡ t → (p < place) ⊎ (place ≤ p)
-    by true e = inl (grind (arith, nat_tests))
-    by false e = inr (grind (arith, nat_tests))
 
 -- it stays one where the place and those behind it have the change, or nothing changed
 pub past_good : {A E : Type 0} (def : MsdbDef) (place : ℕ) (change : Msdb → Msdb) (r : Result A E) (old new : Past)
@@ -58,7 +42,7 @@ pub past_good : {A E : Type 0} (def : MsdbDef) (place : ℕ) (change : Msdb → 
 past_good def place change (Err e) old new is same keeps from before err = subst (IsPastOf def) (sym err) is
 past_good def place change (Ok done) old new is same keeps from before err = record {
   keys = is.keys ∙ sym same;
-  each = λ p. by p (before_or p place);
+  each = λ p. by p (cases_lt p place);
 }
   where
     by : (p : ℕ) → ((p < place) ⊎ (place ≤ p)) → IsMsdbOf def (database_at p new)
@@ -85,12 +69,6 @@ found_is p (y ∷ ys) x found = by (p y) refl found (λ later. found_is p ys x l
     by true e f later = let same : y ≡ x = cc in subst (λ z. p z ≡ true) same e
     by false e f later = later f
 
--- a segment that is shown
-shown_has : (n : ℕ) (o : Option (Bor (List ℕ))) (found : Option (List ℕ)) → option_copied o ≡ found
-    → ((s : List ℕ) → found ≡ Some s → length s ≡ n) → IfSome o (λ s. length s.now ≡ n)
-shown_has n None found is has = tt
-shown_has n (Some s) found is has = has s.now (sym is)
-
 pub looked_whole : (def : MsdbDef) (msdb : Msdb) (is : IsMsdbOf def msdb) (o : Option (Bor (List ℕ))) (key : List ℕ)
     → option_copied o ≡ segment_of def msdb key → IfSome o (λ s. length s.now ≡ def.length)
 looked_whole def msdb is o key found = shown_has def.length o _ found
@@ -99,7 +77,7 @@ looked_whole def msdb is o key found = shown_has def.length o _ found
 pub its_key : (def : MsdbDef) (msdb : Msdb) (key segment : List ℕ) → segment_of def msdb key ≡ Some segment
     → key_of def.fields segment ≡ key
 its_key def msdb key segment e =
-    same_is (key_of def.fields segment) key (found_is (λ s. same_text (key_of def.fields s) key) msdb.segments segment e)
+    same_text_is (key_of def.fields segment) key (found_is (λ s. same_text (key_of def.fields s) key) msdb.segments segment e)
 
 -- ---- field calls
 
@@ -129,7 +107,3 @@ pub fails : (defs : List MsdbDef) (def : MsdbDef) (key fsas : List ℕ) (old new
     → Gives def key fsas old (Err why) → IsFieldCall defs def key fsas old (Err why) new
 fails defs def key fsas old new (fault.Bad place found) gave = gave defs
 fails defs def key fsas old new fault.Memory gave = tt
-
-pub on_ok : {A E : Type 0} {P Q : Type 0} (r : Result A E) → (P → Q) → OnOk r P → OnOk r Q
-on_ok (Ok done) f p = f p
-on_ok (Err e) f p = tt

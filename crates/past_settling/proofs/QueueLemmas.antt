@@ -19,6 +19,10 @@ use Rattle.key_order.proofs.Ascending.{all_at, stands_there}
 use Rattle.past_settling.specs.Queues.{IsQueue}
 use Rattle.past_settling.specs.inside.Queues.{IsCall, LeavesAll, fault_at, is_it, late_at}
 use Rattle.past_settling.specs.inside.Settling.{IsFieldCall, Leaves}
+use Rattle.plain_laws.proofs.Alls.{all_set}
+use Rattle.plain_laws.proofs.Truths.{first_false, second_false}
+use Rattle.plain_laws.proofs.Places.{get_set, map_set, set_elsewhere}
+use Rattle.past_segments.proofs.OfPasts.{past_of}
 
 -- ---- lists
 
@@ -28,16 +32,6 @@ as_many [] pasts n def each at = absurd (cc)
 as_many (d ∷ ds) [] n def each at = absurd each
 as_many (d ∷ ds) (p ∷ ps) zero def each at = omega arith
 as_many (d ∷ ds) (p ∷ ps) (suc n) def each at = omega (arith, as_many ds ps n def each.1 at)
-
-past_of : (defs : List MsdbDef) (pasts : List Past) (n : ℕ) (def : MsdbDef) (past : Past) → ArePastsOf defs pasts
-    → slice_get defs n ≡ Some def → slice_get pasts n ≡ Some past → IsPastOf def past
-past_of [] pasts n def past each at there = absurd (cc)
-past_of (d ∷ ds) [] n def past each at there = absurd each
-past_of (d ∷ ds) (p ∷ ps) zero def past each at there =
-    let same : d ≡ def = cc in
-    let one : p ≡ past = cc in
-    subst (λ x. IsPastOf x past) same (subst (IsPastOf d) one each.0)
-past_of (d ∷ ds) (p ∷ ps) (suc n) def past each at there = past_of ds ps n def past each.1 at there
 
 past_set : (defs : List MsdbDef) (pasts : List Past) (n : ℕ) (def : MsdbDef) (past : Past) → ArePastsOf defs pasts
     → slice_get defs n ≡ Some def → IsPastOf def past → ArePastsOf defs (slice_set pasts n past)
@@ -53,18 +47,6 @@ def_good P [] n def each at = absurd (cc)
 def_good P (d ∷ ds) zero def each at = let same : d ≡ def = cc in subst P same each.0
 def_good P (d ∷ ds) (suc n) def each at = def_good P ds n def each.1 at
 
-all_set : {X : Type 0} (P : X → Type 0) (xs : List X) (n : ℕ) (x : X) → AllByRecursion P xs → P x
-    → AllByRecursion P (slice_set xs n x)
-all_set P [] n x all one = tt
-all_set P (y ∷ ys) zero x all one = (one, all.1)
-all_set P (y ∷ ys) (suc n) x all one = (all.0, all_set P ys n x all.1 one)
-
-map_set : {X Y : Type 0} (f : X → Y) (xs : List X) (n : ℕ) (x : X)
-    → map f (slice_set xs n x) ≡ slice_set (map f xs) n (f x)
-map_set f [] n x = refl
-map_set f (y ∷ ys) zero x = refl
-map_set f (y ∷ ys) (suc n) x = ap (λ zs. f y ∷ zs) (map_set f ys n x)
-
 pub map_same : {X Y : Type 0} (f : X → Y) (xs : List X) (n : ℕ) (x y : X) → slice_get xs n ≡ Some x → f y ≡ f x
     → map f (slice_set xs n y) ≡ map f xs
 map_same f [] n x y at e = refl
@@ -76,18 +58,6 @@ get_map : {X Y : Type 0} (f : X → Y) (xs : List X) (n : ℕ) (x : X) → slice
 get_map f [] n x at = absurd (cc)
 get_map f (y ∷ ys) zero x at = let same : y ≡ x = cc in ap (λ z. Some (f z)) same
 get_map f (y ∷ ys) (suc n) x at = get_map f ys n x at
-
-pub get_set : {X : Type 0} (xs : List X) (n : ℕ) (x : X) → n < length xs → slice_get (slice_set xs n x) n ≡ Some x
-get_set [] n x within = absurd (omega (arith, within))
-get_set (y ∷ ys) zero x within = refl
-get_set (y ∷ ys) (suc n) x within = get_set ys n x (omega (arith, within))
-
-pub get_other : {X : Type 0} (xs : List X) (n m : ℕ) (x : X) → (n ≡ m → ⊥) → slice_get (slice_set xs n x) m ≡ slice_get xs m
-get_other [] n m x differ = refl
-get_other (y ∷ ys) zero zero x differ = absurd (differ refl)
-get_other (y ∷ ys) zero (suc m) x differ = refl
-get_other (y ∷ ys) (suc n) zero x differ = refl
-get_other (y ∷ ys) (suc n) (suc m) x differ = get_other ys n m x (λ e. differ (ap suc e))
 
 -- ---- one database of all
 
@@ -151,7 +121,7 @@ module _ (defs : List MsdbDef) (pasts : List Past) (place n j : ℕ) (def : Msdb
   late_elsewhere : (y : Past) (m : ℕ) (k : List ℕ) → (n ≡ m → ⊥)
       → late_at place (slice_set pasts j y) m k ≡ late_at place pasts m k
   late_elsewhere y m k differ = ap (λ o. option_map_or (λ (past : Past). is_late place past k) o false)
-      (get_other pasts j m y (λ e. differ (sym same ∙ e)))
+      (set_elsewhere pasts j m y (λ e. differ (sym same ∙ e)))
 
   -- what that leaves
   pub leaves : (y : Past) (key : List ℕ) → Leaves def place key it y
@@ -199,12 +169,6 @@ drop_at [] n d less = absurd (omega (arith, less))
 drop_at (x ∷ xs) zero d less = refl
 drop_at (x ∷ xs) (suc n) d less = drop_at xs n d (omega (arith, less))
 
-pub drop_end : {X : Type 0} (xs : List X) (n : ℕ) → length xs ≤ n → drop n xs ≡ []
-drop_end [] zero le = refl
-drop_end [] (suc n) le = refl
-drop_end (x ∷ xs) zero le = absurd (omega (arith, le))
-drop_end (x ∷ xs) (suc n) le = drop_end xs n (omega (arith, le))
-
 abbrev next_by : List MsdbDef → ℕ → List Deferred → Applied → Settled
 next_by defs n rest a = elim a as (λ x. Settled) [
   | Becomes changed ↦ settle_from defs (n + 1) changed rest
@@ -228,10 +192,6 @@ next_is defs old msdbs calls n call so_far less is =
     (drop_at calls n call less ∙ ap (λ j. slice_index_or calls n call ∷ drop j calls) next
     ∙ ap (λ c. c ∷ drop (n + 1) calls) (sym is))
 
-pub all_done : (defs : List MsdbDef) (n : ℕ) (msdbs : List Msdb) → settle_from defs n msdbs [] ≡ Stands msdbs
-unfolding settle_from
-all_done defs n msdbs = refl
-
 pub failed : (defs : List MsdbDef) (n : ℕ) (calls : List Deferred) (old msdbs new : List Msdb) (call : Deferred)
     (rest : List Deferred) (why : SettleFault)
     → settle defs old calls ≡ settle_from defs n msdbs (call ∷ rest) → IsCall defs call msdbs (Err why) new
@@ -239,17 +199,6 @@ pub failed : (defs : List MsdbDef) (n : ℕ) (calls : List Deferred) (old msdbs 
 failed defs n calls old msdbs new call rest (fault.Bad place found) so_far made =
     so_far ∙ stepped defs n msdbs call rest (Fails place found) made
 failed defs n calls old msdbs new call rest fault.Memory so_far made = tt
-
-first_false : (a b : Bool) → (a || b) ≡ false → a ≡ false
-first_false true b e = e
-first_false false b e = refl
-
-second_false : (a b : Bool) → (a || b) ≡ false → b ≡ false
-second_false true b e = absurd (differ e)
-  where
-    differ : true ≡ false → ⊥
-    differ e = cc
-second_false false b e = e
 
 pub any_false : {X : Type 0} (t : X → Bool) (xs : List X) (n : ℕ) (d : X) → list_any t xs ≡ false → n < length xs
     → t (slice_index_or xs n d) ≡ false

@@ -4,7 +4,6 @@ use Rattle.ci_space.specs.declared.intervals.Shape.{Shape}
 use Rattle.ci_space.specs.Interval.{IsUsed}
 use Rattle.ci_overflow.specs.Lists.{bytes_at, IsInOrder}
 use Rattle.ci_overflow.specs.Places.{base_of}
-use Rattle.ci_overflow.proofs.Finds.{same_or}
 use Rattle.fp_model.specs.declared.definitions.SegDef.{SegDef}
 use Rattle.fp_model.specs.declared.database.Node.{Node, out-Node, out-roll-Node, roll-Node}
 use Rattle.fp_model.specs.declared.database.Node.TheOpen.{Node-F}
@@ -21,9 +20,10 @@ use Rattle.root_changes.specs.Differing.{HaveSameOwn}
 use Rattle.root_anchor.specs.Differing.{RowsDifferIn, this_segment, below_segment, behind_twin, behind_row, RootsDifferIn, this_root, below_root, behind_root, ChangesAlone}
 use Rattle.root_anchor.specs.Stored.{OthersKeep, ApartKeep, KeepsSequential}
 use Rattle.root_anchor.proofs.Framing.{Stay, rows_keep, rows_stay, roots_keep, roots_stay}
-use Rattle.root_anchor.proofs.Members.{front_in, behind_in}
 use Rattle.root_anchor.proofs.OneChain.{one_segment, one_chain}
 use Rattle.root_anchor.proofs.PutLemmas.{put_keeps_segment, put_keeps_place, put_keeps_roots, put_keeps_order, put_adds_no_used, put_keeps_sequential}
+use Rattle.plain_laws.proofs.Alls.{contains_first, contains_later}
+use Rattle.plain_laws.proofs.Numbers.{same_or_other}
 
 pub rolled_bytes : (bytes : List ℕ) (below : List (List Node))
     → (out-Node (roll-Node (record { bytes = bytes; children = below }))).bytes ≡ bytes
@@ -197,9 +197,9 @@ fresh_rows {types} {area} (segment {met = met} {type = type} {at = at} s {below 
       | inr o ↦ elim o as (λ _. ⊥) [
         | inl b ↦ fresh_rows lower (out-Node b.y).children of_type place says
             (subst (λ r. RowsDifferIn types area (child_types types type) s.firsts r (out-Node b.y).children of_type
-            place says) (rolled_below s.bytes down) b.differ) (behind_in at met place c)
+            place says) (rolled_below s.bytes down) b.differ) (contains_later at met place c)
         | inr b ↦ fresh_rows next (b.other ∷ b.rest) of_type place says b.differ
-            (rows_keep lower place (behind_in at met place c))
+            (rows_keep lower place (contains_later at met place c))
       ]
     ]
 
@@ -213,7 +213,7 @@ met_rows (row_end next) others of_type place says d =
 met_rows {types} {area} (segment {met = met} {type = type} {at = at} s {below = down} {after = after} has fresh lower
     next) others of_type place says d = elim (differ_so d s has) as (λ _. Contains after place) [
       | inl t ↦ subst (λ p. Contains after p) (sym t.is_place)
-          (rows_keep next at (rows_keep lower at (front_in at met)))
+          (rows_keep next at (rows_keep lower at (contains_first at met)))
       | inr o ↦ elim o as (λ _. Contains after place) [
         | inl b ↦ rows_keep next place (met_rows lower (out-Node b.y).children of_type place says
             (subst (λ r. RowsDifferIn types area (child_types types type) s.firsts r (out-Node b.y).children of_type
@@ -231,9 +231,9 @@ fresh_roots {types} {area} (root {met = met} {at = at} s has fresh lower next) o
     elim (roots_differ_so d s has) as (λ _. ⊥) [
       | inl t ↦ fresh (subst (λ p. Contains met p) t.is_place c)
       | inr o ↦ elim o as (λ _. ⊥) [
-        | inl b ↦ fresh_rows lower b.y.children of_type place says b.differ (behind_in at met place c)
+        | inl b ↦ fresh_rows lower b.y.children of_type place says b.differ (contains_later at met place c)
         | inr b ↦ fresh_roots next b.rest of_type place says b.differ
-            (rows_keep lower place (behind_in at met place c))
+            (rows_keep lower place (contains_later at met place c))
       ]
     ]
 
@@ -245,7 +245,7 @@ met_roots no_root others of_type place says d = absurd (roots_differ_so d)
 met_roots {types} {area} (root {met = met} {at = at} s {after = after} has fresh lower next) others of_type place says d
     = elim (roots_differ_so d s has) as (λ _. Contains after place) [
       | inl t ↦ subst (λ p. Contains after p) (sym t.is_place)
-          (roots_keep next at (rows_keep lower at (front_in at met)))
+          (roots_keep next at (rows_keep lower at (contains_first at met)))
       | inr o ↦ elim o as (λ _. Contains after place) [
         | inl b ↦ roots_keep next place (met_rows lower b.y.children of_type place says b.differ)
         | inr b ↦ met_roots next b.rest of_type place says b.differ
@@ -300,7 +300,7 @@ module _ (types : List SegDef) (old new : List (List ℕ)) (of_type : ℕ) (plac
             ap (λ c. roll-Node (record { bytes = (out-Node t.y).bytes; children = c }))
             (sym (rolled_below s.bytes down) ∙ t.below) ∙ roll-out-Node t.y in
             let here : Contains (at ∷ met) place = subst (λ q. Contains (at ∷ met) q) (sym t.is_place)
-            (front_in at met) in
+            (contains_first at met) in
             let built = segment (record s { bytes = (out-Node t.y).bytes }) says_it fresh
             (rows_stay lower (stay_behind (at ∷ met) between here))
             (rows_stay next (stay_behind between after (rows_keep lower place here))) in
@@ -317,7 +317,7 @@ module _ (types : List SegDef) (old new : List (List ℕ)) (of_type : ℕ) (plac
               ap (λ c. roll-Node (record { bytes = c; children = (out-Node b.y).children }))
               (sym (rolled_bytes s.bytes down) ∙ b.bytes) ∙ roll-out-Node b.y in
               let built = segment s
-              (keeps at type s (λ e. low (subst (λ q. Contains (at ∷ met) q) e (front_in at met))) has) fresh
+              (keeps at type s (λ e. low (subst (λ q. Contains (at ∷ met) q) e (contains_first at met))) has) fresh
               (rows_put lower (out-Node b.y).children inner)
               (rows_stay next (stay_behind between after there)) in
               subst (λ l. AreRows types new met (type ∷ more) (at ∷ firsts) l after) (sym b.same)
@@ -326,7 +326,7 @@ module _ (types : List SegDef) (old new : List (List ℕ)) (of_type : ℕ) (plac
               (let high = fresh_rows next (b.other ∷ b.rest) of_type place says b.differ in
               let built = segment s
               (keeps at type s
-              (λ e. high (subst (λ q. Contains between q) e (rows_keep lower at (front_in at met)))) has) fresh
+              (λ e. high (subst (λ q. Contains between q) e (rows_keep lower at (contains_first at met)))) has) fresh
               (rows_stay lower (stay_before (at ∷ met) between high))
               (rows_put next (b.other ∷ b.rest) b.differ) in
               subst (λ l. AreRows types new met (type ∷ more) (at ∷ firsts) l after) (sym b.same) built)
@@ -348,7 +348,7 @@ module _ (types : List SegDef) (old new : List (List ℕ)) (of_type : ℕ) (plac
             let same : (record { bytes = t.y.bytes; children = down; seqs = newest t.serial }) ≡ t.y =
             made_root t.y t.y.bytes down (newest t.serial) refl t.below t.is_newest in
             let here : Contains (at ∷ met) place = subst (λ q. Contains (at ∷ met) q) (sym t.is_place)
-            (front_in at met) in
+            (contains_first at met) in
             let built = root (record s { serial = t.serial; bytes = t.y.bytes }) says_it fresh
             (rows_stay lower (stay_behind (at ∷ met) between here))
             (roots_stay next (stay_behind between after (rows_keep lower place here))) in
@@ -361,7 +361,7 @@ module _ (types : List SegDef) (old new : List (List ℕ)) (of_type : ℕ) (plac
               let same : (record { bytes = s.bytes; children = b.y.children; seqs = newest s.serial }) ≡ b.y =
               made_root b.y s.bytes b.y.children (newest s.serial) b.own.0 refl b.own.1 in
               let built = root s
-              (keeps at 0 s (λ e. low (subst (λ q. Contains (at ∷ met) q) e (front_in at met))) has) fresh
+              (keeps at 0 s (λ e. low (subst (λ q. Contains (at ∷ met) q) e (contains_first at met))) has) fresh
               (rows_put lower b.y.children b.differ)
               (roots_stay next (stay_behind between after there)) in
               subst (λ l. AreRoots types new met at l after) (sym b.same)
@@ -370,7 +370,7 @@ module _ (types : List SegDef) (old new : List (List ℕ)) (of_type : ℕ) (plac
               (let high = fresh_roots next b.rest of_type place says b.differ in
               let built = root s
               (keeps at 0 s
-              (λ e. high (subst (λ q. Contains between q) e (rows_keep lower at (front_in at met)))) has) fresh
+              (λ e. high (subst (λ q. Contains between q) e (rows_keep lower at (contains_first at met)))) has) fresh
               (rows_stay lower (stay_before (at ∷ met) between high))
               (roots_put next b.rest b.differ) in
               subst (λ l. AreRoots types new met at l after) (sym b.same) built)
@@ -475,7 +475,7 @@ module _ (shape : Shape) (types : List SegDef) (old new : List (List ℕ)) (anch
         is_chain : IsChain shape types new other roots elements
 
       stays_at : (other : ℕ) (b : other < anchor_count shape) → StaysAt other (formed.chains other b).elements
-      stays_at other b = elim (same_or other anchor) as (λ _. StaysAt other (formed.chains other b).elements) [
+      stays_at other b = elim (same_or_other other anchor) as (λ _. StaysAt other (formed.chains other b).elements) [
         | inl e ↦
             let h = formed.chains other b in
             let P : ℕ → Type 0 = λ k. IsChain shape types old k h.roots h.elements in

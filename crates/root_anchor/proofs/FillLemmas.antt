@@ -38,12 +38,12 @@ use Rattle.root_anchor.proofs.Apart.{contains-one, holds_or, met-now, met-cases}
 use Rattle.root_anchor.proofs.Exchanging.{used-stays, exchange-both}
 use Rattle.root_anchor.proofs.Framing.{Stay, roots_stay, roots_behind}
 use Rattle.root_anchor.proofs.GapLemmas.{bare_rows, lone, lone_stands}
-use Rattle.root_anchor.proofs.Members.{none_in, front_in, behind_in, in_cases}
 use Rattle.root_anchor.proofs.OwnLemmas.{put_keeps_own, root_keeps_own}
 use Rattle.root_anchor.proofs.OneChain.{one_segment, one_chain, chain_has}
 use Rattle.root_anchor.proofs.PutLemmas.{root_keeps_segment, put_keeps_segment, segment_stays}
 use Rattle.root_anchor.proofs.Rebuilt.{place-stays, IsStored, is-stored, apart-kept, own-kept}
 use Rattle.root_anchor.proofs.Steps.{finds-place, put-there, puts-segment, takes-one}
+use Rattle.plain_laws.proofs.Alls.{contains_cases, contains_first, contains_later, contains_nothing}
 
 -- ---- what was met, each once, and from its end
 
@@ -62,10 +62,10 @@ roots_once (root s has fresh lower next) a = roots_once next (rows_once lower (f
 turned_once : (xs ys : List Pointer) → AreApart xs → AreApart ys → ((p : Pointer) → Contains xs p → ¬ Contains ys p)
     → AreApart (met_after xs ys)
 turned_once [] ys a b d = b
-turned_once (x ∷ xs) ys a b d = turned_once xs (x ∷ ys) a.1 ((d x (front_in x xs)), b)
-    (λ p c m. elim (in_cases x ys p m) as (λ _. ⊥) [
+turned_once (x ∷ xs) ys a b d = turned_once xs (x ∷ ys) a.1 ((d x (contains_first x xs)), b)
+    (λ p c m. elim (contains_cases x ys p m) as (λ _. ⊥) [
       | inl e ↦ a.0 (subst (λ q. Contains xs q) (sym e) c)
-      | inr k ↦ d p (behind_in x xs p c) k
+      | inr k ↦ d p (contains_later x xs p c) k
     ])
 
 turned : (xs ys met : List Pointer) → met_after (met_after xs ys) met ≡ met_after ys (xs ++ met)
@@ -156,20 +156,20 @@ adds_made shape types old middle new anchor added at s b t e p =
 
 none_used : (shape : Shape) (old new : List (List ℕ)) (at : Pointer) → Exchanges shape old new [] (at ∷ [])
     → ¬ IsUsed (bytes_at old at.0) at.1
-none_used shape old new at e = elim (e.fresh at (front_in at [])) as (λ _. ¬ IsUsed (bytes_at old at.0) at.1)
-    [ inl c ↦ absurd (none_in at c) | inr n ↦ n ]
+none_used shape old new at e = elim (e.fresh at (contains_first at [])) as (λ _. ¬ IsUsed (bytes_at old at.0) at.1)
+    [ inl c ↦ absurd (contains_nothing at c) | inr n ↦ n ]
 
 module _ (shape : Shape) (types : List SegDef) (old new : List (List ℕ)) (anchor : ℕ) (added : Added) (at : Pointer)
     (a : Adds shape types old new anchor added at) where
   none_there : (type : ℕ) (s : Segment) → ¬ HasSegment types old type at s
-  none_there type s h = elim (a.exchange.fresh at (front_in at [])) as (λ _. ⊥) [
-    | inl c ↦ none_in at c
+  none_there type s h = elim (a.exchange.fresh at (contains_first at [])) as (λ _. ⊥) [
+    | inl c ↦ contains_nothing at c
     | inr n ↦ n (record { segment = type; content = h.content; used = h.used })
   ]
 
   pub others_there : (type : ℕ) (p : Pointer) (s : Segment) → HasSegment types old type p s → HasSegment types new type p s
   others_there type p s h = segment_stays types old new type p s
-      (λ content u. a.exchange.stay p type content (none_in p) u) h
+      (λ content u. a.exchange.stay p type content (contains_nothing p) u) h
 
 -- ---- behind another, or below it
 
@@ -210,7 +210,7 @@ module _ (shape : Shape) (types : List SegDef) (old new : List (List ℕ)) (anch
       (λ p c. (let P : Pointer → Type 0 = λ q. IsUsed (bytes_at old q.0) q.1 in
       subst P (contains-one gap.holder.at p c)
       (record { segment = gap.holder.segment; content = there.content; used = there.used })))
-      (λ p c. none_in p)
+      (λ p c. contains_nothing p)
 
 -- every segment stays in its element
 
@@ -281,11 +281,11 @@ behind_few shape types old new anchor gap d =
       changed = all;
       few = omega arith;
       others = λ ci n. d.put.elsewhere ci (λ e. n (one_of all (gap.holder.at.0) ci
-          (behind_in 0 (base ∷ two) _ (behind_in base two _ (behind_in d.at.0 (gap.holder.at.0 ∷ []) _ (front_in (gap.holder.at.0) [])))) e))
-          ∙ d.adds.named ci (λ e. n (one_of all 0 ci (front_in 0 (base ∷ two)) e))
-          (λ e. n (one_of all base ci (behind_in 0 (base ∷ two) _ (front_in base two)) e))
+          (contains_later 0 (base ∷ two) _ (contains_later base two _ (contains_later d.at.0 (gap.holder.at.0 ∷ []) _ (contains_first (gap.holder.at.0) [])))) e))
+          ∙ d.adds.named ci (λ e. n (one_of all 0 ci (contains_first 0 (base ∷ two)) e))
+          (λ e. n (one_of all base ci (contains_later 0 (base ∷ two) _ (contains_first base two)) e))
           (λ e. n (one_of all d.at.0 ci
-          (behind_in 0 (base ∷ two) _ (behind_in base two _ (front_in d.at.0 (gap.holder.at.0 ∷ [])))) e));
+          (contains_later 0 (base ∷ two) _ (contains_later base two _ (contains_first d.at.0 (gap.holder.at.0 ∷ [])))) e));
     }
 
 pub front_few : (shape : Shape) (types : List SegDef) (old new : List (List ℕ)) (anchor : ℕ) (first : Pointer)
@@ -299,11 +299,11 @@ front_few shape types old new anchor first r d =
       changed = all;
       few = omega arith;
       others = λ ci n. d.put.elsewhere ci (λ e. n (one_of all own ci
-          (behind_in 0 (base ∷ two) _ (behind_in base two _ (behind_in d.at.0 (own ∷ []) _ (front_in own [])))) e))
-          ∙ d.adds.named ci (λ e. n (one_of all 0 ci (front_in 0 (base ∷ two)) e))
-          (λ e. n (one_of all base ci (behind_in 0 (base ∷ two) _ (front_in base two)) e))
+          (contains_later 0 (base ∷ two) _ (contains_later base two _ (contains_later d.at.0 (own ∷ []) _ (contains_first own [])))) e))
+          ∙ d.adds.named ci (λ e. n (one_of all 0 ci (contains_first 0 (base ∷ two)) e))
+          (λ e. n (one_of all base ci (contains_later 0 (base ∷ two) _ (contains_first base two)) e))
           (λ e. n (one_of all d.at.0 ci
-          (behind_in 0 (base ∷ two) _ (behind_in base two _ (front_in d.at.0 (own ∷ [])))) e));
+          (contains_later 0 (base ∷ two) _ (contains_later base two _ (contains_first d.at.0 (own ∷ [])))) e));
     }
 
 -- one has come
@@ -381,18 +381,18 @@ refilled shape types old middle new anchor all roots others first at xs ys now a
           (λ p c. elim (met-cases now [] p c) as (λ _. Contains ys p ⊎ Contains (places_of all) p) [
             | inl m ↦ elim (more.only p m) as (λ _. Contains ys p ⊎ Contains (places_of all) p)
                 [ inl k ↦ inl (subst (λ q. Contains ys q) (sym k) is) | inr x ↦ inr (back p x) ]
-            | inr m ↦ absurd (none_in p m)
+            | inr m ↦ absurd (contains_nothing p m)
           ])
           (λ p c. (let s = chain_has has.is_chain p (to p c) in
           record { segment = s.type; content = s.has.content; used = s.has.used }))
-          (turned_once now [] (roots_once are tt) tt (λ p c. none_in p));
+          (turned_once now [] (roots_once are tt) tt (λ p c. contains_nothing p));
       own = λ p c. elim (met-cases now [] p c) as
           (λ _. Contains (places_of all) p ⊎ IsOwnRoom shape middle anchor p.0) [
             | inl m ↦ elim (more.only p m) as (λ _. Contains (places_of all) p ⊎ IsOwnRoom shape middle anchor p.0) [
               | inl k ↦ inr (let P : Pointer → Type 0 = λ q. IsOwnRoom shape middle anchor q.0 in subst P (sym k) own)
               | inr x ↦ inl (back p x)
             ]
-            | inr m ↦ absurd (none_in p m)
+            | inr m ↦ absurd (contains_nothing p m)
           ];
       stand = stands_anywhere are;
       put = put;
@@ -424,11 +424,11 @@ behind_rebuilds shape types old new anchor all first roots others gap e a has g 
     (gap.holder.at ∷ d.at ∷ []) k.now a has x
     (λ p c. subst (λ q. Contains has.elements q) (contains-one gap.holder.at p c) k.holder_met)
     (λ p c. subst (λ q. Contains (gap.holder.at ∷ d.at ∷ []) q) (contains-one gap.holder.at p c)
-    (front_in gap.holder.at (d.at ∷ [])))
-    (λ p c. elim (in_cases gap.holder.at (d.at ∷ []) p c) as (λ _. (p ≡ d.at) ⊎ Contains (gap.holder.at ∷ []) p) [
-      | inl q ↦ inr (subst (λ u. Contains (gap.holder.at ∷ []) u) q (front_in gap.holder.at []))
+    (contains_first gap.holder.at (d.at ∷ [])))
+    (λ p c. elim (contains_cases gap.holder.at (d.at ∷ []) p c) as (λ _. (p ≡ d.at) ⊎ Contains (gap.holder.at ∷ []) p) [
+      | inl q ↦ inr (subst (λ u. Contains (gap.holder.at ∷ []) u) q (contains_first gap.holder.at []))
       | inr q ↦ inl (sym (contains-one d.at p q))
-    ]) (behind_in gap.holder.at (d.at ∷ []) d.at (front_in d.at []))
+    ]) (contains_later gap.holder.at (d.at ∷ []) d.at (contains_first d.at []))
     (put_keeps_own shape types d.middle new anchor gap.holder.segment gap.holder.at d.at.0 (links_to gap.holder d.at)
     d.put d.adds.own) k.are k.more
     (subst (λ p. PutsRoot shape new new anchor p) (sym same) (root_stays shape new anchor
@@ -459,7 +459,7 @@ front_rebuilds shape types old new anchor all first roots others r e a has o bar
     (subst (λ q. HasSegment types old s.type q s.segment) (sym (contains-one d.at p k)) s.has)) in
     let stands : HasSegment types d.middle 0 d.at (lone types 0 first d.added.serial r.bytes) =
     lone_stands types d.middle d.at d.added 0 first d.added.serial r.bytes d.adds.has d.is_root d.is_next refl d.has_bytes in
-    let it = root (lone types 0 first d.added.serial r.bytes) stands (none_in d.at)
+    let it = root (lone types 0 first d.added.serial r.bytes) stands (contains_nothing d.at)
     (bare_rows types d.middle (d.at ∷ []) (child_types types 0) r.children bare count) (b.behind (d.at ∷ []) apart) in
     let now : List Pointer = b.added ++ d.at ∷ [] in
     let made : AreRoots types d.middle [] d.at (r ∷ roots) now =
@@ -470,11 +470,11 @@ front_rebuilds shape types old new anchor all first roots others r e a has o bar
       only = λ p c. elim (Contains-append_cases b.added (d.at ∷ []) p c) as
           (λ _. (p ≡ d.at) ⊎ Contains has.elements p)
           [ inl k ↦ inr (back p k) | inr k ↦ inl (sym (contains-one d.at p k)) ];
-      is_met = Contains-append_right b.added (d.at ∷ []) d.at (front_in d.at []);
+      is_met = Contains-append_right b.added (d.at ∷ []) d.at (contains_first d.at []);
     } in
     refilled shape types old d.middle new anchor all roots others d.at d.at [] (d.at ∷ []) now a has d.adds.exchange
-    (λ p c. absurd (none_in p c)) (λ p c. absurd (none_in p c)) (λ p c. inl (sym (contains-one d.at p c)))
-    (front_in d.at []) d.adds.own (subst (λ l. AreRoots types d.middle [] d.at l now) (sym o) made) more d.put
+    (λ p c. absurd (contains_nothing p c)) (λ p c. absurd (contains_nothing p c)) (λ p c. inl (sym (contains-one d.at p c)))
+    (contains_first d.at []) d.adds.own (subst (λ l. AreRoots types d.middle [] d.at l now) (sym o) made) more d.put
 
 -- ---- what a store promises
 
@@ -554,14 +554,10 @@ pub alone_few : (shape : Shape) (types : List SegDef) (old new : List (List ℕ)
 alone_few shape types old new anchor before after it = record {
   changed = it.place.0 ∷ [];
   few = omega arith;
-  others = λ ci n. it.puts.elsewhere ci (λ e. n (one_of (it.place.0 ∷ []) it.place.0 ci (front_in it.place.0 []) e));
+  others = λ ci n. it.puts.elsewhere ci (λ e. n (one_of (it.place.0 ∷ []) it.place.0 ci (contains_first it.place.0 []) e));
 }
 
 -- ---- answers
-
-pub ok_map : {X E : Type 0} (r : Result X E) (P Q : X → Type 0) → ((x : X) → P x → Q x) → IfOk r P → IfOk r Q
-ok_map (Ok x) P Q f p = f x p
-ok_map (Err e) P Q f p = tt
 
 pub any_ok : {X E : Type 0} (r : Result X E) (P : X → Type 0) → ((x : X) → P x) → IfOk r P
 any_ok (Ok x) P f = f x

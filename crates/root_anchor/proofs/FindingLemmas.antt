@@ -22,9 +22,9 @@ use Rattle.root_anchor.specs.Differing.{RowsDifferIn, this_segment, below_segmen
 use Rattle.root_anchor.specs.inside.Finding.{IsTwinAt, this_twin, twin_behind, GiveRows, GivesRow, RowDiffersIn}
 use Rattle.root_anchor.proofs.AloneLemmas.{rolled_below}
 use Rattle.root_changes.proofs.ComparingLemmas.{shifted, front_same, rest_same, front_first, front_second}
-use Rattle.root_anchor.proofs.Members.{none_in}
 use Rattle.root_anchor.proofs.OneChain.{one_segment}
 use Rattle.root_anchor.proofs.Sound.{right}
+use Rattle.plain_laws.proofs.Alls.{contains_nothing}
 
 -- ---- twins
 
@@ -66,7 +66,7 @@ pub twin_right : (types : List SegDef) (area now : List (List ℕ)) (type k from
     (t : Segment) → now ≡ area → IsTwinAt types area type at k place t → IsWrong types now [] from type at ci → ⊥
 twin_right types area now type k from ci at place t e twin wrong =
     let s = twin_has twin in
-    right s.0 s.1 (none_in at) (subst (λ a. IsWrong types a [] from type at ci) e wrong)
+    right s.0 s.1 (contains_nothing at) (subst (λ a. IsWrong types a [] from type at ci) e wrong)
 
 -- one twin further
 pub finds_on : (types : List SegDef) (area now : List (List ℕ)) (type left less : ℕ) (at : Pointer) (s : Segment)

@@ -1,6 +1,6 @@
 -- Roots in form: what a walk reads.
 use Rattle.std.proofs.Common.{◌≡◌, ℕ, zero, suc, ◌+◌, ◌<◌, ◌≤◌, Bool, true, false, ◌&&◌, ◌==◌, nat_lt, List, [], ◌∷◌, ◌++◌, length, drop, get_or, refl, sym, ap, ◌∙◌, append_assoc, arith}
-use Rattle.std.proofs.lemmas.Bool.{lt-ltb}
+use Rattle.std.proofs.lemmas.Bool.{lt-ltb, and_from, and_parts}
 use Rattle.std.proofs.lemmas.Bool.Decides.{nat_tests}
 use Rattle.std.proofs.lemmas.List.{append-nil, drop_all}
 use Rattle.fp_model.specs.declared.definitions.SegDef.{SegDef}
@@ -19,13 +19,6 @@ use Rattle.root_anchor.specs.Stored.{form_step, is_in_form, rows_have_form, is_n
 use Rattle.root_anchor.specs.inside.Stored.{row_has_form}
 use Rattle.root_anchor.proofs.WalkSteps.{left_first}
 
-pub both : (a b : Bool) → a ≡ true → b ≡ true → (a && b) ≡ true
-both a b e f = rw (e, f) refl
-
-parts : (a b : Bool) → (a && b) ≡ true → (a ≡ true) × (b ≡ true)
-parts true b e = (refl, e)
-parts false b e = absurd (cc)
-
 -- a segment with its rows below it
 pub node_form : (types : List SegDef) (type : ℕ) (bytes : List ℕ) (children : List (List Node))
     → has_length types type bytes ≡ true → rows_have_form types (child_types types type) children ≡ true
@@ -33,14 +26,14 @@ pub node_form : (types : List SegDef) (type : ℕ) (bytes : List ℕ) (children 
 node_form types type bytes children e f =
     ap (λ (g : ℕ → Bool). g type)
     (fold-roll-Node (ℕ → Bool) (form_step types) (record { bytes = bytes; children = children }))
-    ∙ both (has_length types type bytes) (rows_have_form types (child_types types type) children) e f
+    ∙ and_from (has_length types type bytes) (rows_have_form types (child_types types type) children) e f
 
 pub row_more : (types : List SegDef) (type : ℕ) (row : List Node) (node : Node) → row_has_form types type row ≡ true
     → is_in_form types node type ≡ true → row_has_form types type (row ++ node ∷ []) ≡ true
-row_more types type [] node e f = both (is_in_form types node type) true f refl
+row_more types type [] node e f = and_from (is_in_form types node type) true f refl
 row_more types type (n ∷ row) node e f =
-    let p = parts (is_in_form types n type) (row_has_form types type row) e in
-    both (is_in_form types n type) (row_has_form types type (row ++ node ∷ [])) p.0 (row_more types type row node p.1 f)
+    let p = and_parts (is_in_form types n type) (row_has_form types type row) e in
+    and_from (is_in_form types n type) (row_has_form types type (row ++ node ∷ [])) p.0 (row_more types type row node p.1 f)
 
 -- a row with one segment more
 pub row_form : (types : List SegDef) (type : ℕ) (row pushed : List Node) (bytes : List ℕ) (children : List (List Node))
@@ -65,7 +58,7 @@ rows_form types list rows pushed row k d l so e p rest f =
     let left : drop k list ≡ get_or list k d ∷ drop (k + 1) list = left_first list k d l in
     let one : rows_have_form types (types_of (drop k list)) (row ∷ rest) ≡ true =
     ap (λ x. rows_have_form types (types_of x) (row ∷ rest)) left
-    ∙ both (row_has_form types (get_or list k d).segment row)
+    ∙ and_from (row_has_form types (get_or list k d).segment row)
     (rows_have_form types (types_of (drop (k + 1) list)) rest) e f in
     ap (λ x. rows_have_form types (types_of list) (x ++ rest)) p
     ∙ ap (rows_have_form types (types_of list)) (append_assoc rows (row ∷ []) rest)
@@ -95,16 +88,16 @@ pub newest_form : (types : List SegDef) (serial : ℕ) → (has_serial types 0 �
 newest_form types zero f = refl
 newest_form types (suc n) f = there (has_sequential types) refl where
   there : (b : Bool) → has_sequential types ≡ b → is_newest types (newest (suc n)) ≡ true
-  there true e = ap (is_newest types) (newest_some n) ∙ both (has_sequential types && nat_lt 0 (suc n)) (0 == 0)
-      (both (has_sequential types) (nat_lt 0 (suc n)) e (positive n)) refl
+  there true e = ap (is_newest types) (newest_some n) ∙ and_from (has_sequential types && nat_lt 0 (suc n)) (0 == 0)
+      (and_from (has_sequential types) (nat_lt 0 (suc n)) e (positive n)) refl
   there false e = absurd (let z = f e in omega (arith, z))
 
 root_more : (types : List SegDef) (roots : List Root) (root : Root) → are_storable types roots ≡ true
     → is_storable types root ≡ true → are_storable types (roots ++ root ∷ []) ≡ true
-root_more types [] root e f = both (is_storable types root) true f refl
+root_more types [] root e f = and_from (is_storable types root) true f refl
 root_more types (r ∷ roots) root e f =
-    let p = parts (is_storable types r) (are_storable types roots) e in
-    both (is_storable types r) (are_storable types (roots ++ root ∷ [])) p.0 (root_more types roots root p.1 f)
+    let p = and_parts (is_storable types r) (are_storable types roots) e in
+    and_from (is_storable types r) (are_storable types (roots ++ root ∷ [])) p.0 (root_more types roots root p.1 f)
 
 -- roots with one root more
 pub roots_form : (types : List SegDef) (roots pushed : List Root) (bytes : List ℕ) (children : List (List Node))
@@ -120,4 +113,4 @@ roots_form types roots pushed bytes children kinds serial seqs e l k f s q p =
     let rows : two ≡ true = ap (λ ks. rows_have_form types ks children) (sym k) ∙ f in
     ap (are_storable types) p
     ∙ root_more types roots (record { bytes = bytes; children = children; seqs = seqs }) e
-    (both (one && two) (is_newest types seqs) (both one two l rows) three)
+    (and_from (one && two) (is_newest types seqs) (and_from one two l rows) three)

@@ -8,7 +8,7 @@ use Rattle.fp_model.specs.declared.database.Root.{Root}
 use Rattle.fp_model.specs.Order.{child_types}
 use Rattle.anchor_elements.specs.Elements.{Pointer, Segment, HasSegment}
 use Rattle.root_anchor.specs.Chains.{AreRows, no_row, row_end, segment, newest, AreRoots, no_root, root}
-use Rattle.root_anchor.proofs.Members.{none_in, front_in, behind_in, in_cases}
+use Rattle.plain_laws.proofs.Alls.{contains_cases, contains_first, contains_later, contains_nothing}
 
 -- ---- what was met before is met after
 
@@ -17,13 +17,13 @@ pub rows_keep : {types : List SegDef} {area : List (List ℕ)} {met : List Point
     → AreRows types area met row_types firsts rows after → (p : Pointer) → Contains met p → Contains after p
 rows_keep no_row p h = h
 rows_keep (row_end next) p h = rows_keep next p h
-rows_keep (segment s has fresh below next) p h = rows_keep next p (rows_keep below p (behind_in _ _ p h))
+rows_keep (segment s has fresh below next) p h = rows_keep next p (rows_keep below p (contains_later _ _ p h))
 
 pub roots_keep : {types : List SegDef} {area : List (List ℕ)} {met : List Pointer} {at : Pointer} {roots : List Root}
     {after : List Pointer}
     → AreRoots types area met at roots after → (p : Pointer) → Contains met p → Contains after p
 roots_keep no_root p h = h
-roots_keep (root s has fresh below next) p h = roots_keep next p (rows_keep below p (behind_in _ _ p h))
+roots_keep (root s has fresh below next) p h = roots_keep next p (rows_keep below p (contains_later _ _ p h))
 
 -- ---- elements that stay
 
@@ -37,7 +37,7 @@ stay_below : {types : List SegDef} {old new : List (List ℕ)} {met after : List
     → ((p : Pointer) → Contains between p → Contains after p) → Stay types old new met after
     → Stay types old new (at ∷ met) between
 stay_below {met = met} at between within stay = record
-    { each = λ p h apart. stay.each p (within p h) (λ m. apart (behind_in at met p m)) }
+    { each = λ p h apart. stay.each p (within p h) (λ m. apart (contains_later at met p m)) }
 
 stay_next : {types : List SegDef} {old new : List (List ℕ)} {met after : List Pointer} (between : List Pointer)
     → ((p : Pointer) → Contains met p → Contains between p) → Stay types old new met after
@@ -52,10 +52,10 @@ rows_stay no_row stay = no_row
 rows_stay (row_end next) stay = row_end (rows_stay next stay)
 rows_stay (segment {met = met} {type = type} {at = at} s {between = between} has fresh below next) stay =
     segment s
-    (stay.each at (rows_keep next at (rows_keep below at (front_in at met))) fresh type s has)
+    (stay.each at (rows_keep next at (rows_keep below at (contains_first at met))) fresh type s has)
     fresh
     (rows_stay below (stay_below at between (rows_keep next) stay))
-    (rows_stay next (stay_next between (λ p m. rows_keep below p (behind_in at met p m)) stay))
+    (rows_stay next (stay_next between (λ p m. rows_keep below p (contains_later at met p m)) stay))
 
 pub roots_stay : {types : List SegDef} {old new : List (List ℕ)} {met : List Pointer} {at : Pointer} {roots : List Root}
     {after : List Pointer}
@@ -63,10 +63,10 @@ pub roots_stay : {types : List SegDef} {old new : List (List ℕ)} {met : List P
 roots_stay no_root stay = no_root
 roots_stay (root {met = met} {at = at} s {between = between} has fresh below next) stay =
     root s
-    (stay.each at (roots_keep next at (rows_keep below at (front_in at met))) fresh 0 s has)
+    (stay.each at (roots_keep next at (rows_keep below at (contains_first at met))) fresh 0 s has)
     fresh
     (rows_stay below (stay_below at between (roots_keep next) stay))
-    (roots_stay next (stay_next between (λ p m. rows_keep below p (behind_in at met p m)) stay))
+    (roots_stay next (stay_next between (λ p m. rows_keep below p (contains_later at met p m)) stay))
 
 -- ---- other elements that were met before
 
@@ -104,11 +104,11 @@ apart_joined : (last first : List Pointer) (at : Pointer) (other : List Pointer)
     → (p : Pointer) → Contains (last ++ (first ++ at ∷ [])) p → ¬ Contains other p
 apart_joined last first at other one head tail p h o =
     elim (Contains-append_cases last (first ++ at ∷ []) p h) as (λ _. ⊥) [
-      | inl l ↦ tail p l (Contains-append_right first (at ∷ other) p (behind_in at other p o))
+      | inl l ↦ tail p l (Contains-append_right first (at ∷ other) p (contains_later at other p o))
       | inr f ↦ elim (Contains-append_cases first (at ∷ []) p f) as (λ _. ⊥) [
-        | inl l ↦ head p l (behind_in at other p o)
-        | inr a ↦ elim (in_cases at [] p a) as (λ _. ⊥)
-            [ inl e ↦ one (subst (λ q. Contains other q) (sym e) o) | inr n ↦ none_in p n ]
+        | inl l ↦ head p l (contains_later at other p o)
+        | inr a ↦ elim (contains_cases at [] p a) as (λ _. ⊥)
+            [ inl e ↦ one (subst (λ q. Contains other q) (sym e) o) | inr n ↦ contains_nothing p n ]
       ]
     ]
 
@@ -118,16 +118,16 @@ joined_apart : (last first : List Pointer) (at : Pointer) (met other : List Poin
     → ((p : Pointer) → Contains (last ++ (first ++ at ∷ [])) p → ¬ Contains other p) → AreApart last first at other
 joined_apart last first at met other head tail apart = record {
   one = apart at (Contains-append_right last (first ++ at ∷ []) at
-      (Contains-append_right first (at ∷ []) at (front_in at [])));
-  first_apart = λ p h o. elim (in_cases at other p o) as (λ _. ⊥) [
-    | inl e ↦ head p h (subst (λ q. Contains (at ∷ met) q) e (front_in at met))
+      (Contains-append_right first (at ∷ []) at (contains_first at [])));
+  first_apart = λ p h o. elim (contains_cases at other p o) as (λ _. ⊥) [
+    | inl e ↦ head p h (subst (λ q. Contains (at ∷ met) q) e (contains_first at met))
     | inr m ↦ apart p (Contains-append_right last (first ++ at ∷ []) p (Contains-append_left first (at ∷ []) p h)) m
   ];
   last_apart = λ p h o. elim (Contains-append_cases first (at ∷ other) p o) as (λ _. ⊥) [
     | inl f ↦ tail p h (Contains-append_left first (at ∷ met) p f)
-    | inr r ↦ elim (in_cases at other p r) as (λ _. ⊥) [
+    | inr r ↦ elim (contains_cases at other p r) as (λ _. ⊥) [
       | inl e ↦ tail p h (subst (λ q. Contains (first ++ (at ∷ met)) q) e
-          (Contains-append_right first (at ∷ met) at (front_in at met)))
+          (Contains-append_right first (at ∷ met) at (contains_first at met)))
       | inr m ↦ apart p (Contains-append_left last (first ++ at ∷ []) p h) m
     ]
   ];
@@ -139,7 +139,7 @@ pub rows_behind : {types : List SegDef} {area : List (List ℕ)} {met : List Poi
 rows_behind no_row = record {
   added = [];
   same = refl;
-  fresh = λ p h. absurd (none_in p h);
+  fresh = λ p h. absurd (contains_nothing p h);
   behind =
       λ other apart. no_row;
 }
@@ -178,7 +178,7 @@ pub roots_behind : {types : List SegDef} {area : List (List ℕ)} {met : List Po
 roots_behind no_root = record {
   added = [];
   same = refl;
-  fresh = λ p h. absurd (none_in p h);
+  fresh = λ p h. absurd (contains_nothing p h);
   behind =
       λ other apart. no_root;
 }

@@ -20,32 +20,32 @@ use Rattle.root_anchor.specs.inside.Gaps.{says_added, linked, Fills, MeetsOneMor
 use Rattle.root_anchor.proofs.AloneLemmas.{rolled_bytes, rolled_below, made_root}
 use Rattle.root_anchor.proofs.FindingLemmas.{twin_first, twin_later}
 use Rattle.root_anchor.proofs.Framing.{Stay, rows_keep, rows_stay, roots_keep}
-use Rattle.root_anchor.proofs.Members.{front_in, behind_in, in_cases}
 use Rattle.root_anchor.proofs.OneChain.{one_segment, rows_have}
 use Rattle.root_anchor.proofs.Rows.{rows_joined}
+use Rattle.plain_laws.proofs.Alls.{contains_cases, contains_first, contains_later}
 
 -- ---- what was met
 
 more_on : (at p : Pointer) (met other : List Pointer) → MeetsOneMore at met other
     → MeetsOneMore at (p ∷ met) (p ∷ other)
 more_on at p met other m = record {
-  keep = λ q h. elim (in_cases p met q h) as (λ _. Contains (p ∷ other) q) [
-    | inl e ↦ subst (λ r. Contains (p ∷ other) r) e (front_in p other)
-    | inr k ↦ behind_in p other q (m.keep q k)
+  keep = λ q h. elim (contains_cases p met q h) as (λ _. Contains (p ∷ other) q) [
+    | inl e ↦ subst (λ r. Contains (p ∷ other) r) e (contains_first p other)
+    | inr k ↦ contains_later p other q (m.keep q k)
   ];
-  only = λ q h. elim (in_cases p other q h) as (λ _. (q ≡ at) ⊎ Contains (p ∷ met) q) [
-    | inl e ↦ inr (subst (λ r. Contains (p ∷ met) r) e (front_in p met))
+  only = λ q h. elim (contains_cases p other q h) as (λ _. (q ≡ at) ⊎ Contains (p ∷ met) q) [
+    | inl e ↦ inr (subst (λ r. Contains (p ∷ met) r) e (contains_first p met))
     | inr k ↦ elim (m.only q k) as (λ _. (q ≡ at) ⊎ Contains (p ∷ met) q)
-        [ inl e ↦ inl e | inr o ↦ inr (behind_in p met q o) ]
+        [ inl e ↦ inl e | inr o ↦ inr (contains_later p met q o) ]
   ];
-  is_met = behind_in p other at m.is_met;
+  is_met = contains_later p other at m.is_met;
 }
 
 pub one_in_front : (at : Pointer) (met : List Pointer) → MeetsOneMore at met (at ∷ met)
 one_in_front at met = record {
-  keep = λ q h. behind_in at met q h;
-  only = λ q h. elim (in_cases at met q h) as (λ _. (q ≡ at) ⊎ Contains met q) [ inl e ↦ inl (sym e) | inr k ↦ inr k ];
-  is_met = front_in at met;
+  keep = λ q h. contains_later at met q h;
+  only = λ q h. elim (contains_cases at met q h) as (λ _. (q ≡ at) ⊎ Contains met q) [ inl e ↦ inl (sym e) | inr k ↦ inr k ];
+  is_met = contains_first at met;
 }
 
 -- ---- what rows and roots begin with
@@ -229,8 +229,8 @@ module _ (types : List SegDef) (old new : List (List ℕ)) (gap : Gap) (at : Poi
         let r = rows_moved next other m c in
         record { now = r.now; are = row_end r.are; more = r.more }
     rows_moved (segment {met = met} {type = type} {at = p} s has fresh lower next) other m c =
-        let low = rows_moved lower (p ∷ other) (more_on at p met other m) (behind_in p met gap.holder.at c) in
-        let rest = rows_moved next low.now low.more (rows_keep lower gap.holder.at (behind_in p met gap.holder.at c)) in
+        let low = rows_moved lower (p ∷ other) (more_on at p met other m) (contains_later p met gap.holder.at c) in
+        let rest = rows_moved next low.now low.more (rows_keep lower gap.holder.at (contains_later p met gap.holder.at c)) in
         record {
           now = rest.now;
           are = segment s (f.others type p s (λ e. fresh (subst (λ q. Contains met q) (sym e) c)) has)
@@ -243,8 +243,8 @@ module _ (types : List SegDef) (old new : List (List ℕ)) (gap : Gap) (at : Poi
         → MeetsOneMore at met other → Contains met gap.holder.at → RootsMoved types new at other first roots after
     roots_moved no_root other m c = record { now = other; are = no_root; more = m }
     roots_moved (root {met = met} {at = p} s has fresh lower next) other m c =
-        let low = rows_moved lower (p ∷ other) (more_on at p met other m) (behind_in p met gap.holder.at c) in
-        let rest = roots_moved next low.now low.more (rows_keep lower gap.holder.at (behind_in p met gap.holder.at c)) in
+        let low = rows_moved lower (p ∷ other) (more_on at p met other m) (contains_later p met gap.holder.at c) in
+        let rest = roots_moved next low.now low.more (rows_keep lower gap.holder.at (contains_later p met gap.holder.at c)) in
         record {
           now = rest.now;
           are = root s (f.others 0 p s (λ e. fresh (subst (λ q. Contains met q) (sym e) c)) has)
@@ -271,9 +271,9 @@ module _ (types : List SegDef) (old new : List (List ℕ)) (gap : Gap) (at : Poi
         let l = twin_later (length front) w in
         let o = first_is l.s l.has r in
         let k = row_twins type place t tail others g front l.s.next l.twin o.between after
-        (none_met o.lower (λ c. elim (in_cases first met at c) as (λ _. ⊥)
+        (none_met o.lower (λ c. elim (contains_cases first met at c) as (λ _. ⊥)
         [ inl e ↦ not_new first type l.s l.has e | inr m ↦ n m ])) o.next in
-        let here : Contains o.between first = rows_keep o.lower first (front_in first met) in
+        let here : Contains o.between first = rows_keep o.lower first (contains_first first met) in
         let all = segment l.s (f.others type first l.s (λ e. k.apart (subst (λ q. Contains o.between q) e here)) l.has)
         o.fresh (rows_stay o.lower (stay_before (first ∷ met) o.between k.apart)) k.are in
         record {
@@ -281,7 +281,7 @@ module _ (types : List SegDef) (old new : List (List ℕ)) (gap : Gap) (at : Poi
           are = subst (λ (y : Node). AreRows types new met (type ∷ []) (first ∷ []) ((y ∷ (front ++ others)) ∷ []) k.now)
               (sym o.same) all;
           more = k.more;
-          apart = λ c. k.apart (rows_keep o.lower gap.holder.at (behind_in first met gap.holder.at c));
+          apart = λ c. k.apart (rows_keep o.lower gap.holder.at (contains_later first met gap.holder.at c));
           holder_met = k.holder_met;
         }
 
@@ -300,8 +300,8 @@ module _ (types : List SegDef) (old new : List (List ℕ)) (gap : Gap) (at : Poi
         let links : HasSegment types new type gap.holder.at (record said { next = at }) =
         subst (λ l. HasSegment types new type gap.holder.at (linked l at said)) e
         (subst (λ t. HasSegment types new t gap.holder.at (linked gap.holder.link at said)) k f.links) in
-        let here : Contains o.between gap.holder.at = rows_keep o.lower gap.holder.at (front_in gap.holder.at met) in
-        let free : ¬ Contains o.between at = none_met o.lower (λ c. elim (in_cases gap.holder.at met at c) as (λ _. ⊥)
+        let here : Contains o.between gap.holder.at = rows_keep o.lower gap.holder.at (contains_first gap.holder.at met) in
+        let free : ¬ Contains o.between at = none_met o.lower (λ c. elim (contains_cases gap.holder.at met at c) as (λ _. ⊥)
         [ inl g ↦ not_new gap.holder.at type said h g | inr m ↦ none m ]) in
         let rest = rows_moved o.next (at ∷ o.between) (one_in_front at o.between) here in
         let it = segment (lone types type said.next serial (out-Node n).bytes) stands free
@@ -309,7 +309,7 @@ module _ (types : List SegDef) (old new : List (List ℕ)) (gap : Gap) (at : Poi
         let made = subst (λ (y : Node). AreRows types new o.between (type ∷ []) (at ∷ []) ((y ∷ back) ∷ []) rest.now)
         (roll-out-Node n) it in
         let all = segment (record said { next = at }) links o.fresh
-        (rows_stay o.lower (stay_behind (gap.holder.at ∷ met) o.between (front_in gap.holder.at met))) made in
+        (rows_stay o.lower (stay_behind (gap.holder.at ∷ met) o.between (contains_first gap.holder.at met))) made in
         record {
           now = rest.now;
           are = subst (λ (y : Node). AreRows types new met (type ∷ []) (gap.holder.at ∷ []) ((y ∷ n ∷ back) ∷ []) rest.now)
@@ -430,10 +430,10 @@ module _ (types : List SegDef) (old new : List (List ℕ)) (gap : Gap) (at : Poi
         (λ m n sub free a. (let w = g m n free a in
         ((w.apart, w.holder_met), record { now = w.now; are = w.are; more = w.more }))) j
         (child_types types type) s.firsts rows others k p d (place ∷ met) after (λ u c. c)
-        (λ c. elim (in_cases place met at c) as (λ _. ⊥)
+        (λ c. elim (contains_cases place met at c) as (λ _. ⊥)
         [ inl e ↦ not_new place type s h e | inr m ↦ none m ]) r in
         let stays : HasSegment types new type place s =
-        f.others type place s (λ e. it.0.0 (subst (λ q. Contains (place ∷ met) q) e (front_in place met))) h in
+        f.others type place s (λ e. it.0.0 (subst (λ q. Contains (place ∷ met) q) e (contains_first place met))) h in
         record {
           firsts = set s.firsts j first;
           has = subst (λ l. HasSegment types new type place (record s { firsts = l })) (sym (set_same s.firsts j first p))
@@ -441,7 +441,7 @@ module _ (types : List SegDef) (old new : List (List ℕ)) (gap : Gap) (at : Poi
           now = it.1.now;
           are = it.1.are;
           more = it.1.more;
-          apart = λ c. it.0.0 (behind_in place met gap.holder.at c);
+          apart = λ c. it.0.0 (contains_later place met gap.holder.at c);
           holder_met = it.0.1;
         }
 
@@ -458,7 +458,7 @@ module _ (types : List SegDef) (old new : List (List ℕ)) (gap : Gap) (at : Poi
         → HasBelow types new gap at type place s met others after
     below_in_front type kind place first s n serial row other j rows others k p d o is_type is_place is_link said stands
         bare count h met after fresh none r =
-        let here : Contains (place ∷ met) gap.holder.at = subst (λ q. Contains (place ∷ met) q) is_place (front_in place met) in
+        let here : Contains (place ∷ met) gap.holder.at = subst (λ q. Contains (place ∷ met) q) is_place (contains_first place met) in
         let one : (m a : List Pointer) → ((q : Pointer) → Contains (place ∷ met) q → Contains m q) → ¬ Contains m at
         → AreRows types old m (kind ∷ []) (first ∷ []) (row ∷ []) a
         → (⊤ × Contains a gap.holder.at) × RowsMoved types new at m (kind ∷ []) (at ∷ []) (other ∷ []) a =
@@ -477,7 +477,7 @@ module _ (types : List SegDef) (old new : List (List ℕ)) (gap : Gap) (at : Poi
         ) in
         let it = rows_at (place ∷ met) (λ m. ⊤) (λ m n on c. tt) (λ m n sub c. stay_behind m n (sub gap.holder.at here)) kind first
         at row other one j (child_types types type) s.firsts rows others k p d (place ∷ met) after (λ u c. c)
-        (λ c. elim (in_cases place met at c) as (λ _. ⊥)
+        (λ c. elim (contains_cases place met at c) as (λ _. ⊥)
         [ inl e ↦ not_new place type s h e | inr m ↦ none m ]) r in
         let e : segment_of gap.holder.said ≡ s = one_segment said h in
         let a : HasSegment types new type gap.holder.at (linked gap.holder.link at (segment_of gap.holder.said)) =
@@ -513,16 +513,16 @@ module _ (types : List SegDef) (old new : List (List ℕ)) (gap : Gap) (at : Poi
         let l = twin_later (length front) w in
         let o = root_is l.s l.has r in
         let k = root_twins place t tail others g front l.s.next l.twin o.between after
-        (none_met o.lower (λ c. elim (in_cases first met at c) as (λ _. ⊥)
+        (none_met o.lower (λ c. elim (contains_cases first met at c) as (λ _. ⊥)
         [ inl e ↦ not_new first 0 l.s l.has e | inr m ↦ n m ])) o.next in
-        let here : Contains o.between first = rows_keep o.lower first (front_in first met) in
+        let here : Contains o.between first = rows_keep o.lower first (contains_first first met) in
         let all = root l.s (f.others 0 first l.s (λ e. k.apart (subst (λ q. Contains o.between q) e here)) l.has)
         o.fresh (rows_stay o.lower (stay_before (first ∷ met) o.between k.apart)) k.are in
         record {
           now = k.now;
           are = subst (λ (y : Root). AreRoots types new met first (y ∷ (front ++ others)) k.now) (sym o.same) all;
           more = k.more;
-          apart = λ c. k.apart (rows_keep o.lower gap.holder.at (behind_in first met gap.holder.at c));
+          apart = λ c. k.apart (rows_keep o.lower gap.holder.at (contains_later first met gap.holder.at c));
           holder_met = k.holder_met;
         }
 
@@ -539,8 +539,8 @@ module _ (types : List SegDef) (old new : List (List ℕ)) (gap : Gap) (at : Poi
         let links : HasSegment types new 0 gap.holder.at (record said { next = at }) =
         subst (λ l. HasSegment types new 0 gap.holder.at (linked l at said)) e
         (subst (λ t. HasSegment types new t gap.holder.at (linked gap.holder.link at said)) k f.links) in
-        let here : Contains o.between gap.holder.at = rows_keep o.lower gap.holder.at (front_in gap.holder.at met) in
-        let free : ¬ Contains o.between at = none_met o.lower (λ c. elim (in_cases gap.holder.at met at c) as (λ _. ⊥)
+        let here : Contains o.between gap.holder.at = rows_keep o.lower gap.holder.at (contains_first gap.holder.at met) in
+        let free : ¬ Contains o.between at = none_met o.lower (λ c. elim (contains_cases gap.holder.at met at c) as (λ _. ⊥)
         [ inl g ↦ not_new gap.holder.at 0 said h g | inr m ↦ none m ]) in
         let rest = roots_moved o.next (at ∷ o.between) (one_in_front at o.between) here in
         let it = root (lone types 0 said.next serial n.bytes) stands free
@@ -548,7 +548,7 @@ module _ (types : List SegDef) (old new : List (List ℕ)) (gap : Gap) (at : Poi
         let made = subst (λ (y : Root). AreRoots types new o.between at (y ∷ back) rest.now)
         (made_root n n.bytes n.children (newest serial) refl refl seqs) it in
         let all = root (record said { next = at }) links o.fresh
-        (rows_stay o.lower (stay_behind (gap.holder.at ∷ met) o.between (front_in gap.holder.at met))) made in
+        (rows_stay o.lower (stay_behind (gap.holder.at ∷ met) o.between (contains_first gap.holder.at met))) made in
         record {
           now = rest.now;
           are = subst (λ (y : Root). AreRoots types new met gap.holder.at (y ∷ n ∷ back) rest.now) (sym o.same) all;

@@ -22,12 +22,12 @@ use Rattle.root_anchor.specs.inside.Finding.{IsTwinAt}
 use Rattle.root_anchor.specs.inside.Gaps.{Fills, FitsGap, IsGapBelow, IsGapBehind, IsGapInRoots, HasThese}
 use Rattle.root_anchor.proofs.FindingLemmas.{FirstAt, count_of, first_at, last_has}
 use Rattle.root_anchor.proofs.GapLemmas.{RowFilled, RootsFilled, lone_stands, row_twins, row_behind, row_below, below_in_row, below_in_front, root_twins, root_behind, root_below}
-use Rattle.root_anchor.proofs.Members.{none_in}
 use Rattle.root_anchor.proofs.OneChain.{one_segment}
 use Rattle.root_anchor.proofs.TypeLemmas.{row-node, rows-count}
 use Rattle.root_anchor.specs.inside.Rebuilding.{IsDirect}
 use Rattle.root_anchor.specs.Stored.{rows_have_form}
 use Rattle.root_anchor.specs.inside.Stored.{row_has_form}
+use Rattle.plain_laws.proofs.Alls.{contains_nothing}
 
 -- ---- lists
 
@@ -203,7 +203,7 @@ gap_behind_root types old first k serial n roots others gap b m seqs bare count 
           (root_twins types old new gap at f gap.holder.at said (w.last ∷ m.back) (w.last ∷ n ∷ m.back)
           (root_behind types old new gap at f serial n w.last m.back (last_has b.twin) b.is_type b.is_link seqs stands
           bare count) w.init first (subst (λ j. IsTwinAt types old 0 first j gap.holder.at said) (sym w.count) b.twin)
-          [] after (none_in at) (subst (λ u. AreRoots types old [] first u after) was r))));
+          [] after (contains_nothing at) (subst (λ u. AreRoots types old [] first u after) was r))));
     }
 
 pub gap_below_root : (types : List SegDef) (old : List (List ℕ)) (first twin : Pointer) (t : Segment) (k : ℕ)
@@ -218,7 +218,7 @@ gap_below_root types old first twin t k x y roots others gap w d own g =
           has_these (subst (λ u. RootsFilled types new gap at [] first u after) (sym s.second)
           (root_twins types old new gap at f twin t (x ∷ s.back) (y ∷ s.back)
           (root_below types old new gap at f twin t x y s.back (last_has w) own g) s.front first
-          (subst (λ j. IsTwinAt types old 0 first j twin t) (sym s.count) w) [] after (none_in at)
+          (subst (λ j. IsTwinAt types old 0 first j twin t) (sym s.count) w) [] after (contains_nothing at)
           (subst (λ u. AreRoots types old [] first u after) s.first r)));
     }
 

@@ -12,10 +12,10 @@ use Rattle.root_anchor.specs.inside.Standing.{places_of}
 use Rattle.root_anchor.specs.inside.Rebuilding.{AreApart, Exchanges, AreGivable}
 use Rattle.root_anchor.specs.declared.standing.Standing.{Standing}
 use Rattle.root_anchor.proofs.Apart.{contains-one, apart-disjoint}
-use Rattle.root_anchor.proofs.Members.{front_in, behind_in, in_cases}
 use Rattle.root_anchor.proofs.Exchanging.{exchange-both, used-stays}
 use Rattle.root_anchor.proofs.Planning.{exchange-none}
 use Rattle.root_anchor.proofs.Steps.{gives-back}
+use Rattle.plain_laws.proofs.Alls.{contains_cases, contains_first, contains_later}
 
 pub given-none : (shape : Shape) (area : List (List ℕ)) → Exchanges shape area area [] []
 given-none shape area = exchange-none shape area
@@ -65,20 +65,20 @@ next_place area all k one g b e =
     let P : List Pointer → Type 0 = AreApart in
     let Q : List Pointer → Type 0 = λ xs. Contains xs one.at in
     let here : Contains (one.at ∷ places_of (drop (suc k) all)) one.at =
-    front_in one.at (places_of (drop (suc k) all)) in
+    contains_first one.at (places_of (drop (suc k) all)) in
     let R : (at : Pointer) → List Pointer → Type 0 = λ at xs. Contains xs at in
     record {
-      more = λ at c. subst (R at) (sym t) (elim (in_cases one.at (places_of (take k all)) at c) as
+      more = λ at c. subst (R at) (sym t) (elim (contains_cases one.at (places_of (take k all)) at c) as
           (λ _. Contains (places_of (take k all) ++ one.at ∷ []) at) [
             | inl s ↦ Contains-append_right (places_of (take k all)) (one.at ∷ []) at
-                (let S : Pointer → Type 0 = λ p. Contains (one.at ∷ []) p in subst S s (front_in one.at []))
+                (let S : Pointer → Type 0 = λ p. Contains (one.at ∷ []) p in subst S s (contains_first one.at []))
             | inr x ↦ Contains-append_left (places_of (take k all)) (one.at ∷ []) at x
           ]);
       back = λ at c. elim (Contains-append_cases (places_of (take k all)) (one.at ∷ []) at (subst (R at) t c)) as
           (λ _. Contains (one.at ∷ places_of (take k all)) at) [
-            | inl x ↦ behind_in one.at (places_of (take k all)) at x
+            | inl x ↦ contains_later one.at (places_of (take k all)) at x
             | inr x ↦ (let S : Pointer → Type 0 = λ p. Contains (one.at ∷ places_of (take k all)) p in
-                subst S (contains-one one.at at x) (front_in one.at (places_of (take k all))))
+                subst S (contains-one one.at at x) (contains_first one.at (places_of (take k all))))
           ];
       used = g.used one.at (subst Q (sym whole) (Contains-append_right (places_of (take k all))
           (one.at ∷ places_of (drop (suc k) all)) one.at here));
@@ -132,4 +132,4 @@ part-held all k one b e =
     ∙ ap (λ xs. places_of (take k all) ++ places_of xs) d in
     let Q : List Pointer → Type 0 = λ xs. Contains xs one.at in
     subst Q (sym whole) (Contains-append_right (places_of (take k all)) (one.at ∷ places_of (drop (suc k) all)) one.at
-    (front_in one.at (places_of (drop (suc k) all))))
+    (contains_first one.at (places_of (drop (suc k) all))))

@@ -8,7 +8,6 @@ use Rattle.std.proofs.lemmas.Grind.{flat_map-append}
 use Rattle.std.proofs.lemmas.Cmp.{nat_list_cmp_total, tied_itself}
 use Rattle.std.specs.Ordering.{nat_cmp}
 use Rattle.std.specs.Cmp.Lexicographic.{slice_cmp}
-use Rattle.ci_overflow.proofs.Finds.{same_or}
 use Rattle.fp_model.specs.declared.definitions.SegDef.{SegDef}
 use Rattle.fp_model.specs.declared.database.Node.{Node, out-Node, map-Node, roll-Node}
 use Rattle.fp_model.specs.declared.database.Node.TheFolds.{fold_out-Node, fold-roll-Node, ind-Node}
@@ -21,6 +20,7 @@ use Rattle.root_anchor.specs.declared.standing.Standing.{Standing}
 use Rattle.root_anchor.specs.Keeping.{keys_below, keys_in_rows, keys_of_rows, keys_of_roots, keys_of_segment, keys_step}
 use Rattle.root_anchor.specs.inside.Keeping.{IsLastOf, IsPlanning, PlansAll, kept, keys_of_row, marks_of}
 use Rattle.root_anchor.proofs.TypeLemmas.{child-behind}
+use Rattle.plain_laws.proofs.Numbers.{same_or_other}
 
 -- ---- the keys in one more segment or row
 
@@ -203,14 +203,14 @@ last-other xs segment key k j e it l b g =
 pub here_only : (xs : List Standing) (segment : ℕ) (key : List ℕ) (k left : ℕ) (e : Standing)
     → IsLastOf xs segment key k → k < left → left ≤ length xs → e ≡ get_or xs (left - 1) e → e.segment ≡ segment
     → (left - 1 ≡ k) × (e.key ≡ key)
-here_only xs segment key k left e it b l g s = elim (same_or (left - 1) k) as (λ _. (left - 1 ≡ k) × (e.key ≡ key)) [
+here_only xs segment key k left e it b l g s = elim (same_or_other (left - 1) k) as (λ _. (left - 1 ≡ k) × (e.key ≡ key)) [
   | inl p ↦ (p, (last-is xs segment key k (left - 1) e it p g).1)
   | inr n ↦ absurd (last-other xs segment key k (left - 1) e it (omega (arith, b, n)) (omega (arith, l, b)) g s)
 ]
 
 pub further_on : (xs : List Standing) (segment : ℕ) (key : List ℕ) (k left : ℕ) (e : Standing)
     → IsLastOf xs segment key k → k < left → e ≡ get_or xs (left - 1) e → e.segment ≢ segment → k < left - 1
-further_on xs segment key k left e it b g s = elim (same_or (left - 1) k) as (λ _. k < left - 1) [
+further_on xs segment key k left e it b g s = elim (same_or_other (left - 1) k) as (λ _. k < left - 1) [
   | inl p ↦ absurd (s ((last-is xs segment key k (left - 1) e it p g).0))
   | inr n ↦ omega (arith, b, n)
 ]

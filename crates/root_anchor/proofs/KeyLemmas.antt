@@ -19,8 +19,8 @@ use Rattle.root_anchor.specs.inside.Rebuilding.{ArePlaced, met_after, reserved}
 use Rattle.root_anchor.specs.inside.Standing.{places_of, Stands, AreKeyed}
 use Rattle.root_anchor.specs.declared.standing.Standing.{Standing}
 use Rattle.root_anchor.proofs.Apart.{met-append}
-use Rattle.root_anchor.proofs.Members.{front_in, behind_in}
 use Rattle.root_anchor.proofs.OneChain.{one_segment}
+use Rattle.plain_laws.proofs.Alls.{contains_first, contains_later}
 
 -- a segment of its type stands in it, and its key is there
 pub record HasKey (types : List SegDef) (area : List (List ℕ)) (s : Standing) : Type 0 where
@@ -35,7 +35,7 @@ keys_each : (types : List SegDef) (area : List (List ℕ)) (list : List Standing
     → ((s : Standing) → Contains list s → HasKey types area s) → HaveKeys types area list
 keys_each types area [] f = tt
 keys_each types area (x ∷ list) f =
-    (f x (front_in x list), keys_each types area list (λ s c. f s (behind_in x list s c)))
+    (f x (contains_first x list), keys_each types area list (λ s c. f s (contains_later x list s c)))
 
 pub have-keys : (types : List SegDef) (area : List (List ℕ)) (list : List Standing)
     → ((s : Standing) → Contains list s → Stands types area s) → AreKeyed types area list → HaveKeys types area list

@@ -3,7 +3,6 @@ pub mod Exchanging
 pub mod Steps
 pub mod PutLemmas
 pub mod RootPuts
-pub mod Members
 pub mod Framing
 pub mod WalkLemmas
 pub mod WalkSteps

@@ -4,7 +4,6 @@ use Rattle.ci_space.specs.declared.intervals.Shape.{Shape}
 use Rattle.ci_space.specs.Interval.{IsUsed}
 use Rattle.ci_overflow.specs.Lists.{bytes_at}
 use Rattle.ci_overflow.specs.Places.{base_of}
-use Rattle.ci_overflow.proofs.Finds.{same_or}
 use Rattle.fp_model.specs.declared.definitions.SegDef.{SegDef}
 use Rattle.fp_model.specs.declared.database.Root.{Root}
 use Rattle.anchor_elements.specs.Elements.{Pointer, Segment, HasSegment}
@@ -17,10 +16,11 @@ use Rattle.root_anchor.specs.declared.places.RootPlace.{RootPlace}
 use Rattle.root_anchor.specs.Roots.{IsRootAt, this_root, later_root}
 use Rattle.root_anchor.specs.Stored.{OthersKeep}
 use Rattle.root_anchor.proofs.Framing.{Stay, rows_keep, rows_stay, roots_keep, roots_stay}
-use Rattle.root_anchor.proofs.Members.{front_in, behind_in}
 use Rattle.root_anchor.proofs.OneChain.{one_segment, one_chain, none_at_nothing}
 use Rattle.root_anchor.proofs.PutLemmas.{put_keeps_segment, put_keeps_place, put_keeps_roots, put_keeps_order, put_adds_no_used}
 use Rattle.root_anchor.proofs.RootLemmas.{root_at_first, root_at_later}
+use Rattle.plain_laws.proofs.Alls.{contains_first, contains_later}
+use Rattle.plain_laws.proofs.Numbers.{same_or_other}
 
 pub root_has : {types : List SegDef} {area : List (List ℕ)} {at place : Pointer} {k : ℕ} {t : Segment}
     → IsRootAt types area at k place t → HasSegment types area 0 place t
@@ -43,7 +43,7 @@ fresh_root {types} {area} (root {met = met} {at = at} s has fresh lower next) (s
     let l = root_at_later k r in
     let e : l.s ≡ s = one_segment l.has has in
     fresh_root next k place t (subst (λ (x : Segment). IsRootAt types area x.next k place t) e l.is_root)
-    (rows_keep lower place (behind_in at met place c))
+    (rows_keep lower place (contains_later at met place c))
 
 -- it is met behind it
 met_root : {types : List SegDef} {area : List (List ℕ)} {met : List Pointer} {at : Pointer} {roots : List Root}
@@ -52,7 +52,7 @@ met_root : {types : List SegDef} {area : List (List ℕ)} {met : List Pointer} {
 met_root no_root zero place t r = absurd (none_at_nothing (root_at_first r) refl)
 met_root no_root (suc k) place t r = absurd (none_at_nothing (root_at_later k r).has refl)
 met_root {types} {area} (root {met = met} {at = at} s {after = after} has fresh lower next) zero place t r =
-    subst (Contains after) (sym (root_at_place r)) (roots_keep next at (rows_keep lower at (front_in at met)))
+    subst (Contains after) (sym (root_at_place r)) (roots_keep next at (rows_keep lower at (contains_first at met)))
 met_root {types} {area} (root {met = met} {at = at} s has fresh lower next) (suc k) place t r =
     let l = root_at_later k r in
     let e : l.s ≡ s = one_segment l.has has in
@@ -77,11 +77,11 @@ newest_roots {types} {old} (root {met = met} {at = at} s {between = between} {af
     λ q type x d h. put_keeps_segment types old new 0 place (record t { serial = n }) p type q x (λ g. d (g ∙ e)) h in
     let low : Stay types old new (at ∷ met) between = record {
       each = λ q c apart type x h. keeps q type x
-          (λ g. apart (subst (Contains (at ∷ met)) (sym g) (front_in at met))) h;
+          (λ g. apart (subst (Contains (at ∷ met)) (sym g) (contains_first at met))) h;
     } in
     let high : Stay types old new between after = record {
       each = λ q c apart type x h. keeps q type x
-          (λ g. apart (subst (Contains between) (sym g) (rows_keep lower at (front_in at met)))) h;
+          (λ g. apart (subst (Contains between) (sym g) (rows_keep lower at (contains_first at met)))) h;
     } in
     root (record s { serial = n }) says fresh (rows_stay lower low) (roots_stay next high)
 newest_roots {types} {old} (root {met = met} {at = at} s {between = between} has fresh lower next) new (suc k) n place t
@@ -96,7 +96,7 @@ newest_roots {types} {old} (root {met = met} {at = at} s {between = between} has
     λ q type x c h. put_keeps_segment types old new 0 place (record t { serial = n }) p type q x
     (λ g. none (subst (Contains between) g c)) h in
     let low : Stay types old new (at ∷ met) between = record { each = λ q c apart type x h. keeps q type x c h } in
-    root s (keeps at 0 s (rows_keep lower at (front_in at met)) has) fresh (rows_stay lower low)
+    root s (keeps at 0 s (rows_keep lower at (contains_first at met)) has) fresh (rows_stay lower low)
     (newest_roots next new k n place t later p)
 
 module _ (shape : Shape) (types : List SegDef) (old new : List (List ℕ)) (anchor number serial : ℕ)
@@ -162,7 +162,7 @@ module _ (shape : Shape) (types : List SegDef) (old new : List (List ℕ)) (anch
 
     stays_at : (other : ℕ) (b : other < anchor_count shape)
         → StaysAt other (formed.chains other b).elements
-    stays_at other b = elim (same_or other anchor) as (λ _. StaysAt other (formed.chains other b).elements) [
+    stays_at other b = elim (same_or_other other anchor) as (λ _. StaysAt other (formed.chains other b).elements) [
       | inl e ↦
           let c = (formed.chains other b).is_chain in
           let P : ℕ → Type 0 = λ k. IsChain shape types old k (formed.chains other b).roots (formed.chains other

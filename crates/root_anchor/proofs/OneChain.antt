@@ -13,7 +13,7 @@ use Rattle.fp_model.specs.declared.database.Root.{Root}
 use Rattle.fp_model.specs.Order.{child_types}
 use Rattle.anchor_elements.specs.Elements.{Pointer, nothing, Segment, segment_in, HasSegment}
 use Rattle.root_anchor.specs.Chains.{AreRows, no_row, row_end, segment, newest, AreRoots, no_root, root, IsChain}
-use Rattle.root_anchor.proofs.Members.{none_in, in_cases}
+use Rattle.plain_laws.proofs.Alls.{contains_cases, contains_nothing}
 
 -- ---- segments
 
@@ -237,7 +237,7 @@ rows_have (row_end next) p h = rows_have next p h
 rows_have {types} {area} (segment {met = met} {type = type} {at = at} s has fresh lower next) p h =
     elim (rows_have next p h) as (λ _. Contains met p ⊎ HasSome types area p) [
       | inl b ↦ elim (rows_have lower p b) as (λ _. Contains met p ⊎ HasSome types area p) [
-        | inl m ↦ elim (in_cases at met p m) as (λ _. Contains met p ⊎ HasSome types area p) [
+        | inl m ↦ elim (contains_cases at met p m) as (λ _. Contains met p ⊎ HasSome types area p) [
           | inl e ↦ inr (subst (λ q. HasSome types area q) e (record { type = type; segment = s; has = has }))
           | inr old ↦ inl old
         ]
@@ -253,7 +253,7 @@ roots_have no_root p h = inl h
 roots_have {types} {area} (root {met = met} {at = at} s has fresh lower next) p h =
     elim (roots_have next p h) as (λ _. Contains met p ⊎ HasSome types area p) [
       | inl b ↦ elim (rows_have lower p b) as (λ _. Contains met p ⊎ HasSome types area p) [
-        | inl m ↦ elim (in_cases at met p m) as (λ _. Contains met p ⊎ HasSome types area p) [
+        | inl m ↦ elim (contains_cases at met p m) as (λ _. Contains met p ⊎ HasSome types area p) [
           | inl e ↦ inr (subst (λ q. HasSome types area q) e (record { type = 0; segment = s; has = has }))
           | inr old ↦ inl old
         ]
@@ -266,4 +266,4 @@ pub chain_has : {shape : Shape} {types : List SegDef} {area : List (List ℕ)} {
     {elements : List Pointer}
     → IsChain shape types area anchor roots elements → (p : Pointer) → Contains elements p → HasSome types area p
 chain_has {types = types} {area = area} c p h = elim (roots_have c.are_roots p h) as (λ _. HasSome types area p)
-    [ inl none ↦ absurd (none_in p none) | inr some ↦ some ]
+    [ inl none ↦ absurd (contains_nothing p none) | inr some ↦ some ]

@@ -12,10 +12,10 @@ use Rattle.anchor_elements.specs.Elements.{Pointer, Segment, HasSegment}
 use Rattle.root_anchor.specs.Chains.{AreRows}
 use Rattle.anchor_elements.specs.Wrong.{IsWrong, leads_to_no_interval, leads_to_no_element, leads_to_no_segment, leads_back}
 use Rattle.root_anchor.specs.Damage.{RowsFail, here, below, at_twin, next_row, RootsFail, root_here, below_root, next_root, ChainFails, no_base, wrong_pointer}
-use Rattle.root_anchor.proofs.Members.{none_in, in_cases}
 use Rattle.anchor_elements.proofs.ReadLemmas.{content_interval}
 use Rattle.root_anchor.proofs.OneChain.{HasSome, one_segment, none_at_nothing, stands_in_interval, one_rows, rows_have}
 use Rattle.root_anchor.proofs.Sound.{right, fails_so, roots_fail_so, rows_sound}
+use Rattle.plain_laws.proofs.Alls.{contains_cases, contains_nothing}
 
 -- a segment stands in each element that was met
 pub record AllHave (types : List SegDef) (area : List (List ℕ)) (met : List Pointer) : Type 0 where
@@ -24,7 +24,7 @@ pub record AllHave (types : List SegDef) (area : List (List ℕ)) (met : List Po
 one_more : {types : List SegDef} {area : List (List ℕ)} {met : List Pointer} {type : ℕ} {at : Pointer} {s : Segment}
     → HasSegment types area type at s → AllHave types area met → AllHave types area (at ∷ met)
 one_more {types} {area} {met} {type} {at} {s} has all = record {
-  each = λ p m. elim (in_cases at met p m) as (λ _. HasSome types area p) [
+  each = λ p m. elim (contains_cases at met p m) as (λ _. HasSome types area p) [
     | inl e ↦ subst (λ q. HasSome types area q) e (record { type = type; segment = s; has = has })
     | inr old ↦ all.each p old
   ];
@@ -176,4 +176,4 @@ chain_fails_once (no_base a) (no_base b) = refl
 chain_fails_once (no_base a) (wrong_pointer base f) = absurd (a base)
 chain_fails_once (wrong_pointer base f) (no_base b) = absurd (b base)
 chain_fails_once {other = other} (wrong_pointer base f) (wrong_pointer place g) =
-    roots_fail_once f (record { each = λ p m. absurd (none_in p m) }) other g
+    roots_fail_once f (record { each = λ p m. absurd (contains_nothing p m) }) other g

@@ -6,7 +6,6 @@ use Rattle.ci_space.specs.Head.{head_of}
 use Rattle.ci_overflow.specs.Lists.{bytes_at, owner_of}
 use Rattle.ci_overflow.specs.Places.{base_of, first_base, first_independent, uow_of}
 use Rattle.ci_overflow.specs.Rooms.{IsOwnRoom, TakesRoom, its_base, a_dependent, an_independent}
-use Rattle.ci_overflow.proofs.Finds.{same_or}
 use Rattle.ci_overflow.proofs.Joins.{base-before, owner-known}
 use Rattle.ci_overflow.proofs.Tries.{head-owner, keeps-owner}
 use Rattle.fp_model.specs.declared.definitions.SegDef.{SegDef}
@@ -15,6 +14,7 @@ use Rattle.anchor_elements.specs.Puts.{PutsSegment}
 use Rattle.root_anchor.specs.inside.Puts.{PutsRoot}
 use Rattle.root_anchor.specs.inside.Rebuilding.{HadOrOwn, StandIn}
 use Rattle.root_anchor.proofs.PutLemmas.{put_keeps_head}
+use Rattle.plain_laws.proofs.Numbers.{same_or_other}
 
 same_owner : (old new : List ℕ) → (head_of new).owner ≡ (head_of old).owner → owner_of new ≡ owner_of old
 same_owner old new e = sym (head-owner new (head_of new).owner refl) ∙ e ∙ head-owner old (head_of old).owner refl
@@ -44,7 +44,7 @@ root_keeps_own shape old new anchor ci first p (a_dependent l h) = a_dependent l
 root_keeps_own shape old new anchor ci first p (an_independent o) = an_independent (record {
   from = o.from;
   below = omega (arith, o.below, p.same_number);
-  owned = same_owner (bytes_at old ci) (bytes_at new ci) (elim (same_or ci (base_of shape anchor)) as
+  owned = same_owner (bytes_at old ci) (bytes_at new ci) (elim (same_or_other ci (base_of shape anchor)) as
       (λ _. (head_of (bytes_at new ci)).owner ≡ (head_of (bytes_at old ci)).owner) [
         | inl e ↦ subst (λ c. (head_of (bytes_at new c)).owner ≡ (head_of (bytes_at old c)).owner) (sym e)
             (ap (λ (h : Head). h.owner) p.head)
@@ -68,7 +68,7 @@ room_keeps_own shape old new anchor n ci room u b t (an_independent o) =
     an_independent (record {
       from = o.from;
       below = omega (arith, o.below, t.longer);
-      owned = elim (same_or ci room.0) as (λ _. owner_of (bytes_at new ci) ≡ uow_of shape anchor + 1) [
+      owned = elim (same_or_other ci room.0) as (λ _. owner_of (bytes_at new ci) ≡ uow_of shape anchor + 1) [
         | inl e ↦ owner-where new ci room.0 (uow_of shape anchor + 1) e (elim t.source as
             (λ _. owner_of (bytes_at new room.0) ≡ uow_of shape anchor + 1) [
               | inl k ↦ keeps-owner (bytes_at old room.0) (bytes_at new room.0) k.head

@@ -11,7 +11,7 @@ use Rattle.root_anchor.specs.inside.Rebuilding.{AreApart, Exchanges, and_place, 
 use Rattle.root_anchor.specs.declared.plan.Planned.{Planned}
 use Rattle.root_anchor.proofs.OwnLemmas.{stand-both}
 use Rattle.root_anchor.proofs.Apart.{apart-left, apart-right, apart-disjoint}
-use Rattle.root_anchor.proofs.Members.{none_in, front_in, behind_in, in_cases}
+use Rattle.plain_laws.proofs.Alls.{contains_cases, contains_first, contains_later, contains_nothing}
 
 -- ---- the parts of a plan
 
@@ -74,7 +74,7 @@ place_used : (types : List SegDef) (area : List (List ℕ)) (type : ℕ) (o : Op
     → IsUsed (bytes_at area at.0) at.1
 place_used types area type None rest at h f c = f c
 place_used types area type (Some p) rest at h f c =
-    elim (in_cases p rest at c) as (λ _. IsUsed (bytes_at area at.0) at.1) [
+    elim (contains_cases p rest at c) as (λ _. IsUsed (bytes_at area at.0) at.1) [
       | inl e ↦ (let P : Pointer → Type 0 = λ q. IsUsed (bytes_at area q.0) q.1 in
           subst P e (record { segment = h.segment; content = h.content; used = h.used }))
       | inr d ↦ f d
@@ -82,7 +82,7 @@ place_used types area type (Some p) rest at h f c =
 
 pub rooms-used : (types : List SegDef) (area : List (List ℕ)) (plan : List Planned) → HaveRooms types area plan
     → (at : Pointer) → Contains (reserved plan) at → IsUsed (bytes_at area at.0) at.1
-rooms-used types area [] h at c = absurd (none_in at c)
+rooms-used types area [] h at c = absurd (contains_nothing at c)
 rooms-used types area (p ∷ plan) h at c = place_used types area p.segment p.at (reserved plan) at h.0
     (rooms-used types area plan h.1 at) c
 
@@ -93,12 +93,12 @@ place_stays : (types : List SegDef) (old new : List (List ℕ)) (type : ℕ) (o 
     → IfSome o (λ at. HasRoom (bytes_at new at.0) at.1 (content_length types type))
 place_stays types old new type None rest f h = tt
 place_stays types old new type (Some p) rest f h = record
-    { segment = h.segment; content = h.content; used = f p h.segment h.content (front_in p rest) h.used; fits = h.fits }
+    { segment = h.segment; content = h.content; used = f p h.segment h.content (contains_first p rest) h.used; fits = h.fits }
 
 place_more : (o : Option Pointer) (rest : List Pointer) (at : Pointer) → Contains rest at
     → Contains (and_place o rest) at
 place_more None rest at c = c
-place_more (Some p) rest at c = behind_in p rest at c
+place_more (Some p) rest at c = contains_later p rest at c
 
 pub rooms-stay : (types : List SegDef) (old new : List (List ℕ)) (plan : List Planned)
     → ((at : Pointer) (t : ℕ) (content : List ℕ) → Contains (reserved plan) at
@@ -241,7 +241,7 @@ exchange-none shape area = record {
   stay = λ at type content n h. h;
   none_comes = λ at type content n h. (n, h);
   fresh = λ at c. inl c;
-  used = λ at c. absurd (none_in at c);
+  used = λ at c. absurd (contains_nothing at c);
   once = tt;
   roots = λ ci. refl;
   kinds = λ ci i. (i, refl);

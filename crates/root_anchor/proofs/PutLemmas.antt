@@ -14,8 +14,8 @@ use Rattle.ci_overflow.specs.Lists.{bytes_at, link_of, owner_of, counted, first_
 use Rattle.ci_overflow.specs.Rooms.{KeepsUsed, KeepsEnds, KeepsKinds}
 use Rattle.ci_overflow.proofs.Tries.{keeps-link, keeps-owner}
 use Rattle.ci_overflow.proofs.Joins.{keeps-head}
-use Rattle.ci_overflow.proofs.Finds.{same_or, control-first, base-some}
-use Rattle.ci_overflow.proofs.Orders.{list-stays}
+use Rattle.ci_overflow.proofs.Finds.{control-first, base-some, ends-same}
+use Rattle.ci_overflow.proofs.Orders.{list-stays, counted-same, first_free-same}
 use Rattle.fp_model.specs.declared.definitions.SegDef.{SegDef}
 use Rattle.anchor_elements.specs.Elements.{Pointer, Segment, HasSegment, content_length}
 use Rattle.root_anchor.specs.Chains.{anchor_count, root_of}
@@ -23,6 +23,7 @@ use Rattle.root_anchor.specs.Stored.{KeepsSequential}
 use Rattle.anchor_elements.specs.Puts.{PutsSegment}
 use Rattle.anchor_elements.proofs.Pointers.{same_pointer}
 use Rattle.root_anchor.specs.inside.Puts.{PutsRoot}
+use Rattle.plain_laws.proofs.Numbers.{same_or_other}
 
 -- ---- places
 
@@ -118,18 +119,10 @@ pub record ChangesOne (shape : Shape) (old new : List (List ℕ)) (ci : ℕ) : T
 each_or : (old new : List (List ℕ)) (ci : ℕ) (f : List ℕ → ℕ) → f (bytes_at new ci) ≡ f (bytes_at old ci)
     → ((other : ℕ) → other ≢ ci → bytes_at new other ≡ bytes_at old other)
     → (k : ℕ) → f (bytes_at new k) ≡ f (bytes_at old k)
-each_or old new ci f e g k = elim (same_or k ci) as (λ _. f (bytes_at new k) ≡ f (bytes_at old k)) [
+each_or old new ci f e g k = elim (same_or_other k ci) as (λ _. f (bytes_at new k) ≡ f (bytes_at old k)) [
   | inl h ↦ ap (λ i. f (bytes_at new i)) h ∙ e ∙ ap (λ i. f (bytes_at old i)) (sym h)
   | inr h ↦ ap f (g k h)
 ]
-
-counted_same : (old new : List (List ℕ)) → bytes_at new 0 ≡ bytes_at old 0 → counted new ≡ counted old
-unfolding counted
-counted_same old new e = ap (λ (xs : List ℕ). slice_index (ends_of xs) 2) e
-
-first_free_same : (old new : List (List ℕ)) → bytes_at new 0 ≡ bytes_at old 0 → first_free new ≡ first_free old
-unfolding first_free
-first_free_same old new e = ap (λ (xs : List ℕ). slice_index (ends_of xs) 3) e
 
 pub one_keeps_order : (shape : Shape) (old new : List (List ℕ)) (ci : ℕ) → IsInOrder shape old
     → ChangesOne shape old new ci → IsInOrder shape new
@@ -158,11 +151,11 @@ one_keeps_order shape old new ci o c =
           h.is_list);
     } in
     record {
-      whole = c.same_number ∙ o.whole ∙ ap (λ x. first_independent shape + x) (sym (counted_same old new ez));
+      whole = c.same_number ∙ o.whole ∙ ap (λ x. first_independent shape + x) (sym (counted-same old new ez));
       in_place = λ k l.
           let p : IsInPlace shape old k = o.in_place k (omega (arith, l, c.same_number)) in
           record {
-            is_interval = elim (same_or k ci) as (λ _. IsInterval (bytes_at new k)) [
+            is_interval = elim (same_or_other k ci) as (λ _. IsInterval (bytes_at new k)) [
               | inl e ↦ (let P : ℕ → Type 0 = λ d. IsInterval (bytes_at new d) in subst P (sym e) c.is_interval)
               | inr e ↦ rw (← c.elsewhere k e) at p.is_interval
             ];
@@ -171,7 +164,7 @@ one_keeps_order shape old new ci o c =
       listed = record {
         of_uow = λ u l. moved (u + 1) (link_of (bytes_at old (first_base shape u)))
             (link_of (bytes_at new (first_base shape u))) (link (first_base shape u)) (o.listed.of_uow u l);
-        of_free = moved 0 (first_free old) (first_free new) (first_free_same old new ez) o.listed.of_free;
+        of_free = moved 0 (first_free old) (first_free new) (first_free-same old new ez) o.listed.of_free;
         owners = λ k l m.
             (let x : owner_of (bytes_at old k) ≤ shape.uows = o.listed.owners k l (omega (arith, m, c.same_number)) in
             rw (← owner k) at x);
@@ -213,7 +206,7 @@ pub put_keeps_used : (types : List SegDef) (old new : List (List ℕ)) (type : �
     → (p : Pointer) (t : ℕ) (content : List ℕ) → p ≢ at → HasUsed (bytes_at old p.0) p.1 t content
     → HasUsed (bytes_at new p.0) p.1 t content
 put_keeps_used types old new type at s g p t content n h =
-    elim (same_or p.0 at.0) as (λ _. HasUsed (bytes_at new p.0) p.1 t content) [
+    elim (same_or_other p.0 at.0) as (λ _. HasUsed (bytes_at new p.0) p.1 t content) [
       | inl e ↦
           (let a : p.1 ≢ at.1 = λ f. n (same_pointer p at e f) in
           let P : ℕ → Type 0 = λ k. HasUsed (bytes_at old k) p.1 t content in
@@ -228,7 +221,7 @@ pub put_adds_no_used : (types : List SegDef) (old new : List (List ℕ)) (type :
     → (p : Pointer) (t : ℕ) (content : List ℕ) → p ≢ at → HasUsed (bytes_at new p.0) p.1 t content
     → HasUsed (bytes_at old p.0) p.1 t content
 put_adds_no_used types old new type at s g p t content n h =
-    elim (same_or p.0 at.0) as (λ _. HasUsed (bytes_at old p.0) p.1 t content) [
+    elim (same_or_other p.0 at.0) as (λ _. HasUsed (bytes_at old p.0) p.1 t content) [
       | inl e ↦
           (let a : p.1 ≢ at.1 = λ f. n (same_pointer p at e f) in
           let P : ℕ → Type 0 = λ k. HasUsed (bytes_at old k) p.1 t content in
@@ -288,7 +281,7 @@ put_adds_no_segment types old new type at s g t p q n h =
 -- the heads stay, and with them the root anchor points
 pub put_keeps_head : (types : List SegDef) (old new : List (List ℕ)) (type : ℕ) (at : Pointer) (s : Segment)
     → PutsSegment types old new type at s → (ci : ℕ) → head_of (bytes_at new ci) ≡ head_of (bytes_at old ci)
-put_keeps_head types old new type at s g ci = elim (same_or ci at.0) as
+put_keeps_head types old new type at s g ci = elim (same_or_other ci at.0) as
     (λ _. head_of (bytes_at new ci) ≡ head_of (bytes_at old ci)) [
       | inl e ↦ ap (λ k. head_of (bytes_at new k)) e ∙ keeps-head (bytes_at old at.0) (bytes_at new at.0) g.head ∙ ap
           (λ k. head_of (bytes_at old k)) (sym e)
@@ -305,7 +298,7 @@ put_keeps_roots shape types old new type at s g anchor =
 pub put_keeps_kinds : (types : List SegDef) (old new : List (List ℕ)) (type : ℕ) (at : Pointer) (s : Segment)
     → PutsSegment types old new type at s → KeepsKinds old new
 put_keeps_kinds types old new type at s g ci i = (
-  elim (same_or ci at.0) as (λ _. IsInterval (bytes_at new ci)) [
+  elim (same_or_other ci at.0) as (λ _. IsInterval (bytes_at new ci)) [
     | inl e ↦ (let P : ℕ → Type 0 = λ k. IsInterval (bytes_at new k) in
         subst P (sym e) (record { elements = _; tiles = g.stands.used.tiles }))
     | inr e ↦ rw (← g.elsewhere ci e) at i
@@ -319,22 +312,13 @@ put_keeps_place shape types old new type at s g ci p =
     let k = put_keeps_kinds types old new type at s g ci p.is_interval in
     record { is_interval = k.0; is_kind = k.1 ∙ p.is_kind }
 
--- control's begin and end stay, and the sequential intervals
-ends_same : (old new : List ℕ) → new ≡ old → KeepsEnds old new
-ends_same old new e = record {
-  begin = ap (λ xs. slice_index (ends_of xs) 0) e;
-  end =
-      ap (λ xs. slice_index (ends_of xs) 1) e;
-  head = λ k x y. ap (λ (xs : List ℕ). slice_index xs k) e;
-}
-
 pub put_keeps_sequential : (shape : Shape) (types : List SegDef) (old new : List (List ℕ)) (type : ℕ) (at : Pointer)
     (s : Segment) → IsInOrder shape old → IsUsed (bytes_at old at.0) at.1 → PutsSegment types old new type at s
     → KeepsSequential shape old new
 put_keeps_sequential shape types old new type at s o u g =
     let below : at.0 < length old = within_area old at.0 (used_interval (bytes_at old at.0) at.1 u) in
     record {
-      ends = ends_same (bytes_at old 0) (bytes_at new 0)
+      ends = ends-same (bytes_at old 0) (bytes_at new 0)
           (g.elsewhere 0 (λ e. (put_changes shape types old new type at s o u g).no_control (sym e)));
       intervals = λ ci k. g.elsewhere ci (λ e. used_kind (bytes_at old at.0) at.1 4 refl u
           ((o.in_place at.0 below).is_kind ∙ ap (kind_at shape) (sym e) ∙ k));
@@ -364,7 +348,7 @@ root_keeps_order shape old new anchor at o p a = one_keeps_order shape old new (
 -- every used element stays, and none comes
 pub root_keeps_used : (shape : Shape) (old new : List (List ℕ)) (anchor : ℕ) (at : Pointer)
     → PutsRoot shape old new anchor at → (ci : ℕ) → KeepsUsed (bytes_at old ci) (bytes_at new ci)
-root_keeps_used shape old new anchor at p ci = elim (same_or ci (base_of shape anchor)) as
+root_keeps_used shape old new anchor at p ci = elim (same_or_other ci (base_of shape anchor)) as
     (λ _. KeepsUsed (bytes_at old ci) (bytes_at new ci)) [
       | inl e ↦ (let P : ℕ → Type 0 = λ k. KeepsUsed (bytes_at old k) (bytes_at new k) in subst P (sym e) p.used)
       | inr e ↦ record {
@@ -412,7 +396,7 @@ root_keeps_roots shape old new anchor at p a other b n =
 -- each interval keeps its place
 pub root_keeps_place : (shape : Shape) (old new : List (List ℕ)) (anchor : ℕ) (at : Pointer)
     → PutsRoot shape old new anchor at → (ci : ℕ) → IsInPlace shape old ci → IsInPlace shape new ci
-root_keeps_place shape old new anchor at g ci p = elim (same_or ci (base_of shape anchor)) as
+root_keeps_place shape old new anchor at g ci p = elim (same_or_other ci (base_of shape anchor)) as
     (λ _. IsInPlace shape new ci) [
       | inl e ↦
           (let P : ℕ → Type 0 = λ k. IsInPlace shape new k in
@@ -429,6 +413,6 @@ root_keeps_place shape old new anchor at g ci p = elim (same_or ci (base_of shap
 pub root_keeps_sequential : (shape : Shape) (old new : List (List ℕ)) (anchor : ℕ) (at : Pointer)
     → PutsRoot shape old new anchor at → anchor < anchor_count shape → KeepsSequential shape old new
 root_keeps_sequential shape old new anchor at p a = record {
-  ends = ends_same (bytes_at old 0) (bytes_at new 0) (p.elsewhere 0 (λ e. omega (arith, e)));
+  ends = ends-same (bytes_at old 0) (bytes_at new 0) (p.elsewhere 0 (λ e. omega (arith, e)));
   intervals = λ ci k. p.elsewhere ci (λ e. omega (arith, base_kind shape anchor a, ap (kind_at shape) (sym e), k));
 }

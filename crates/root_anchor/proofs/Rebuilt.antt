@@ -6,7 +6,6 @@ use Rattle.ci_space.specs.Interval.{HasUsed, IsUsed}
 use Rattle.ci_overflow.specs.Places.{base_of}
 use Rattle.ci_overflow.specs.Lists.{bytes_at, IsInOrder, IsInPlace}
 use Rattle.ci_overflow.specs.Rooms.{IsOwnRoom}
-use Rattle.ci_overflow.proofs.Finds.{same_or}
 use Rattle.fp_model.specs.declared.definitions.SegDef.{SegDef}
 use Rattle.fp_model.specs.declared.database.Root.{Root}
 use Rattle.anchor_elements.specs.Elements.{Pointer}
@@ -26,11 +25,12 @@ use Rattle.root_anchor.proofs.Apart.{holds_or, met-cases, met-now, apart-left, a
 use Rattle.root_anchor.specs.Faults.{FaultComes, ListsFail}
 use Rattle.root_anchor.proofs.ComingLemmas.{fault-wider}
 use Rattle.root_anchor.proofs.OwnLemmas.{root_keeps_own}
-use Rattle.root_anchor.proofs.Members.{none_in}
 use Rattle.root_anchor.proofs.Exchanging.{sequential-joined, exchange-both}
 use Rattle.root_anchor.proofs.Framing.{Stay, roots_stay}
 use Rattle.root_anchor.proofs.OneChain.{one_chain, chain_has, HasSome}
 use Rattle.root_anchor.proofs.PutLemmas.{base_before, root_keeps_order, root_keeps_used, root_keeps_segment, root_is_put, root_keeps_roots, root_keeps_sequential, segment_stays}
+use Rattle.plain_laws.proofs.Alls.{contains_nothing}
+use Rattle.plain_laws.proofs.Numbers.{same_or_other}
 
 -- an anchor below the count has its base interval in its place
 pub base-in-place : (shape : Shape) (area : List (List ℕ)) (anchor : ℕ) → IsInOrder shape area
@@ -62,7 +62,7 @@ module _ (shape : Shape) (types : List SegDef) (old middle new : List (List ℕ)
 
   pub new-chain : IsChain shape types new anchor roots (met_after has [])
   new-chain =
-      let from : AreRoots types middle [] first roots (met_after has []) = it.stand [] (λ at c. none_in at) in
+      let from : AreRoots types middle [] first roots (met_after has []) = it.stand [] (λ at c. contains_nothing at) in
       let there : AreRoots types new [] first roots (met_after has []) = roots_stay from (record {
         each =
             λ p _ _ type s h. root_keeps_segment shape types middle new anchor first it.put type p s h;
@@ -120,7 +120,7 @@ module _ (shape : Shape) (types : List SegDef) (old middle new : List (List ℕ)
     met-new at m =
         let P : List Pointer → Type 0 = λ l. Contains l at in
         elim (met-cases has [] at (subst P ((one_chain m.is_chain new-chain).1) m.met)) as (λ _. Contains has at)
-        [ inl c ↦ c | inr c ↦ absurd (none_in at c) ]
+        [ inl c ↦ c | inr c ↦ absurd (contains_nothing at c) ]
 
     met-before : (other : ℕ) (at : Pointer) → other < anchor_count shape → other ≢ anchor
         → Meets shape types new other at → Meets shape types old other at
@@ -150,19 +150,19 @@ module _ (shape : Shape) (types : List SegDef) (old middle new : List (List ℕ)
 
     new-apart : (a b : ℕ) (at : Pointer) → a < anchor_count shape → b < anchor_count shape → Meets shape types new a at
         → Meets shape types new b at → a ≡ b
-    new-apart a b at x y m n = elim (same_or a anchor) as (λ _. a ≡ b) [
-      | inl e ↦ elim (same_or b anchor) as (λ _. a ≡ b) [
+    new-apart a b at x y m n = elim (same_or_other a anchor) as (λ _. a ≡ b) [
+      | inl e ↦ elim (same_or_other b anchor) as (λ _. a ≡ b) [
         | inl f ↦ e ∙ sym f
         | inr f ↦ (let P : ℕ → Type 0 = λ c. Meets shape types new c at in absurd (has-alone b at y f (subst P e m) n))
       ]
-      | inr e ↦ elim (same_or b anchor) as (λ _. a ≡ b) [
+      | inr e ↦ elim (same_or_other b anchor) as (λ _. a ≡ b) [
         | inl f ↦ (let P : ℕ → Type 0 = λ c. Meets shape types new c at in absurd (has-alone a at x e (subst P f n) m))
         | inr f ↦ formed.apart a b at x y (met-before a at x e m) (met-before b at y f n)
       ]
     ]
 
     new-chains : (other : ℕ) → other < anchor_count shape → HasChain shape types new other
-    new-chains other b = elim (same_or other anchor) as (λ _. HasChain shape types new other) [
+    new-chains other b = elim (same_or_other other anchor) as (λ _. HasChain shape types new other) [
       | inl e ↦ (let P : ℕ → Type 0 = λ c. HasChain shape types new c in
           subst P (sym e) (record { roots = roots; elements = met_after has []; is_chain = new-chain }))
       | inr n ↦ (let h : HasChain shape types old other = formed.chains other b in
@@ -195,7 +195,7 @@ module _ (shape : Shape) (types : List SegDef) (old middle new : List (List ℕ)
                     u.content;
                 used = b.1;
               }) in
-              elim (same_or m.anchor anchor) as (λ _. IsMet shape types new at) [
+              elim (same_or_other m.anchor anchor) as (λ _. IsMet shape types new at) [
                 | inl e ↦ (let P : ℕ → Type 0 = λ c. Meets shape types old c at in
                     absurd (b.0 (met-had at (subst P e m.meets))))
                 | inr d ↦ record {
@@ -407,7 +407,7 @@ own-kept shape types old now new anchor all rest slice plan roots e f b o a s r0
       each = λ at m.
           let R : List Pointer → Type 0 = λ xs. Contains xs at in
           let c : Contains r.elements at = elim (met-cases r.elements [] at (subst R ((one_chain m.is_chain chain).1) m.met))
-          as (λ _. Contains r.elements at) [ inl k ↦ k | inr k ↦ absurd (none_in at k) ] in
+          as (λ _. Contains r.elements at) [ inl k ↦ k | inr k ↦ absurd (contains_nothing at k) ] in
           elim (r.own at c) as (λ _. Meets shape types old anchor at ⊎ IsOwnRoom shape new anchor at.0) [
             | inl h ↦ inl (record {
               roots = a.roots;

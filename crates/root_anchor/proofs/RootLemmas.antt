@@ -12,9 +12,9 @@ use Rattle.root_anchor.specs.Formed.{HasChain}
 use Rattle.root_anchor.specs.Roots.{IsRootAt, this_root, later_root, AreSoMany, no_more, one_more, TwinsFail, fails_here, fails_later, HasRootAt, HasFewer, RootsAreBroken, base_is_none, twin_is_wrong}
 use Rattle.root_anchor.specs.declared.places.RootPlace.{RootPlace}
 use Rattle.anchor_elements.proofs.Pointers.{same_pointer}
-use Rattle.root_anchor.proofs.Members.{none_in}
 use Rattle.root_anchor.proofs.OneChain.{one_segment, none_at_nothing}
 use Rattle.root_anchor.proofs.Sound.{right}
+use Rattle.plain_laws.proofs.Alls.{contains_nothing}
 
 -- ---- where the chain stands, none of its pointers from root to root is wrong
 
@@ -38,7 +38,7 @@ twins_right no_root from ci f = elim (twins_fail_so f) as (λ _. ⊥) [
 ]
 twins_right {types} {area} (root {at = at} s has fresh lower next) from ci f =
     elim (twins_fail_so f) as (λ _. ⊥) [
-      | inl w ↦ right s has (none_in at) w.1
+      | inl w ↦ right s has (contains_nothing at) w.1
       | inr t ↦ twins_right next at.0 ci (subst (λ (x : Segment). TwinsFail types area at.0 x.next ci)
           (one_segment t.has has) t.fails)
     ]

@@ -10,8 +10,8 @@ use Rattle.anchor_elements.specs.Elements.{Pointer, nothing, Segment, HasSegment
 use Rattle.root_anchor.specs.Chains.{AreRows, no_row, row_end, segment, newest, AreRoots, no_root, root}
 use Rattle.root_anchor.specs.inside.Rebuilding.{AreApart, met_after, RowsStand, RootsStand}
 use Rattle.root_anchor.proofs.Apart.{apart-disjoint, met-cases, met-append}
-use Rattle.root_anchor.proofs.Members.{front_in, behind_in, in_cases}
 use Rattle.root_anchor.proofs.Framing.{rows_stay, roots_stay}
+use Rattle.plain_laws.proofs.Alls.{contains_cases, contains_first, contains_later}
 
 -- ---- rows
 
@@ -26,9 +26,9 @@ row-ends types area type met d = row_end no_row
 front_apart : (at : Pointer) (xs ys met : List Pointer) → AreApart (at ∷ (xs ++ ys))
     → ((p : Pointer) → Contains (at ∷ (xs ++ ys)) p → ¬ Contains met p) → (p : Pointer) → Contains xs p
     → ¬ Contains (at ∷ met) p
-front_apart at xs ys met a d p c m = elim (in_cases at met p m) as (λ _. ⊥) [
+front_apart at xs ys met a d p c m = elim (contains_cases at met p m) as (λ _. ⊥) [
   | inl e ↦ (let P : Pointer → Type 0 = λ q. Contains xs q in a.0 (Contains-append_left xs ys at (subst P (sym e) c)))
-  | inr n ↦ d p (behind_in at (xs ++ ys) p (Contains-append_left xs ys p c)) n
+  | inr n ↦ d p (contains_later at (xs ++ ys) p (Contains-append_left xs ys p c)) n
 ]
 
 back_apart : (at : Pointer) (xs ys met : List Pointer) → AreApart (at ∷ (xs ++ ys))
@@ -36,10 +36,10 @@ back_apart : (at : Pointer) (xs ys met : List Pointer) → AreApart (at ∷ (xs 
     → ¬ Contains (met_after xs (at ∷ met)) p
 back_apart at xs ys met a d p c m = elim (met-cases xs (at ∷ met) p m) as (λ _. ⊥) [
   | inl n ↦ apart-disjoint xs ys p a.1 n c
-  | inr n ↦ elim (in_cases at met p n) as (λ _. ⊥) [
+  | inr n ↦ elim (contains_cases at met p n) as (λ _. ⊥) [
     | inl e ↦ (let P : Pointer → Type 0 = λ q. Contains ys q in
         a.0 (Contains-append_right xs ys at (subst P (sym e) c)))
-    | inr o ↦ d p (behind_in at (xs ++ ys) p (Contains-append_right xs ys p c)) o
+    | inr o ↦ d p (contains_later at (xs ++ ys) p (Contains-append_right xs ys p c)) o
   ]
 ]
 
@@ -61,7 +61,7 @@ row-begins types area type at s below row xs ys node h f g a b c met d =
       children =
           below;
     }) ∷ row) ∷ []) (met_after ys (met_after xs (at ∷ met))) =
-    segment s h (d at (front_in at (xs ++ ys))) (f (at ∷ met) (front_apart at xs ys met a d))
+    segment s h (d at (contains_first at (xs ++ ys))) (f (at ∷ met) (front_apart at xs ys met a d))
     (g (met_after xs (at ∷ met)) (back_apart at xs ys met a d))
     in
     subst Q (sym (met-append xs ys (at ∷ met))) (subst R n all)
@@ -128,7 +128,7 @@ root-begins types area at s first roots xs ys h f g a b c met d =
       seqs =
           newest s.serial;
     } ∷ roots) (met_after ys (met_after xs (at ∷ met))) =
-    root s h (d at (front_in at (xs ++ ys))) (f (at ∷ met) (front_apart at xs ys met a d))
+    root s h (d at (contains_first at (xs ++ ys))) (f (at ∷ met) (front_apart at xs ys met a d))
     (g (met_after xs (at ∷ met)) (back_apart at xs ys met a d))
     in
     subst Q (sym (met-append xs ys (at ∷ met))) (subst R n all)

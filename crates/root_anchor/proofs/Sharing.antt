@@ -13,7 +13,7 @@ use Rattle.root_anchor.specs.inside.Rebuilding.{AreApart, reserved, HaveRoom, Ha
 use Rattle.root_anchor.specs.declared.plan.Planned.{Planned}
 use Rattle.root_anchor.specs.declared.standing.Standing.{Standing}
 use Rattle.root_anchor.proofs.Apart.{apart-left, apart-pairs}
-use Rattle.root_anchor.proofs.Members.{front_in, behind_in, in_cases}
+use Rattle.plain_laws.proofs.Alls.{contains_cases, contains_first, contains_later}
 
 -- ---- an element in front of others
 
@@ -21,15 +21,15 @@ pub apart-front : (ws zs : List Pointer) (a : Pointer) → AreApart (ws ++ (a �
 apart-front [] zs a h = h
 apart-front (w ∷ ws) zs a h =
     let i : AreApart (a ∷ (ws ++ zs)) = apart-front ws zs a h.1 in (
-      (λ c. elim (in_cases w (ws ++ zs) a c) as (λ _. ⊥) [
+      (λ c. elim (contains_cases w (ws ++ zs) a c) as (λ _. ⊥) [
         | inl e ↦ (let P : Pointer → Type 0 = λ x. Contains (ws ++ (a ∷ zs)) x in
-            h.0 (subst P (sym e) (Contains-append_right ws (a ∷ zs) a (front_in a zs))))
+            h.0 (subst P (sym e) (Contains-append_right ws (a ∷ zs) a (contains_first a zs))))
         | inr d ↦ i.0 d
       ]),
       (
         (λ c. h.0 (elim (Contains-append_cases ws zs w c) as (λ _. Contains (ws ++ (a ∷ zs)) w) [
           | inl d ↦ Contains-append_left ws (a ∷ zs) w d
-          | inr d ↦ Contains-append_right ws (a ∷ zs) w (behind_in a zs w d)
+          | inr d ↦ Contains-append_right ws (a ∷ zs) w (contains_later a zs w d)
         ])),
         i.1,
       ),
@@ -37,20 +37,20 @@ apart-front (w ∷ ws) zs a h =
 
 pub to-front : {X : Type 0} (ws zs : List X) (a x : X) → Contains (ws ++ (a ∷ zs)) x → Contains (a ∷ (ws ++ zs)) x
 to-front {X} ws zs a x c = elim (Contains-append_cases ws (a ∷ zs) x c) as (λ _. Contains (a ∷ (ws ++ zs)) x) [
-  | inl d ↦ behind_in a (ws ++ zs) x (Contains-append_left ws zs x d)
-  | inr d ↦ elim (in_cases a zs x d) as (λ _. Contains (a ∷ (ws ++ zs)) x) [
-    | inl e ↦ (let P : X → Type 0 = λ y. Contains (a ∷ (ws ++ zs)) y in subst P e (front_in a (ws ++ zs)))
-    | inr f ↦ behind_in a (ws ++ zs) x (Contains-append_right ws zs x f)
+  | inl d ↦ contains_later a (ws ++ zs) x (Contains-append_left ws zs x d)
+  | inr d ↦ elim (contains_cases a zs x d) as (λ _. Contains (a ∷ (ws ++ zs)) x) [
+    | inl e ↦ (let P : X → Type 0 = λ y. Contains (a ∷ (ws ++ zs)) y in subst P e (contains_first a (ws ++ zs)))
+    | inr f ↦ contains_later a (ws ++ zs) x (Contains-append_right ws zs x f)
   ]
 ]
 
 pub from-front : {X : Type 0} (ws zs : List X) (a x : X) → Contains (a ∷ (ws ++ zs)) x → Contains (ws ++ (a ∷ zs)) x
-from-front {X} ws zs a x c = elim (in_cases a (ws ++ zs) x c) as (λ _. Contains (ws ++ (a ∷ zs)) x) [
+from-front {X} ws zs a x c = elim (contains_cases a (ws ++ zs) x c) as (λ _. Contains (ws ++ (a ∷ zs)) x) [
   | inl e ↦ (let P : X → Type 0 = λ y. Contains (ws ++ (a ∷ zs)) y in
-      subst P e (Contains-append_right ws (a ∷ zs) a (front_in a zs)))
+      subst P e (Contains-append_right ws (a ∷ zs) a (contains_first a zs)))
   | inr d ↦ elim (Contains-append_cases ws zs x d) as (λ _. Contains (ws ++ (a ∷ zs)) x) [
     | inl f ↦ Contains-append_left ws (a ∷ zs) x f
-    | inr f ↦ Contains-append_right ws (a ∷ zs) x (behind_in a zs x f)
+    | inr f ↦ Contains-append_right ws (a ∷ zs) x (contains_later a zs x f)
   ]
 ]
 
@@ -100,7 +100,7 @@ shares_taken all plan old new type at s t =
               standing = t.taken;
               held = s.of_rest t.taken
                   (subst Q (sym t.was) (Contains-append_right t.before (t.taken ∷ t.after) t.taken
-                  (front_in t.taken t.after)));
+                  (contains_first t.taken t.after)));
               is_type = t.is_type;
               is_at = t.is_at;
             },
@@ -109,7 +109,7 @@ shares_taken all plan old new type at s t =
       of_rest = λ x c.
           let Q : List Standing → Type 0 = λ xs. Contains xs x in
           s.of_rest x (subst Q (sym t.was) (from-front t.before t.after t.taken x
-          (behind_in t.taken (t.before ++ t.after) x (subst Q t.now c))));
+          (contains_later t.taken (t.before ++ t.after) x (subst Q t.now c))));
       once = λ a. subst P (sym now) (apart-front ws zs at (subst P was (s.once a)));
       had = λ p c. let Q : List Pointer → Type 0 = λ xs. Contains xs p in
           subst Q (sym now) (to-front ws zs at p (subst Q was (s.had p c)));

@@ -10,7 +10,7 @@ use Rattle.ci_overflow.specs.Places.{first_base, kind_at, uow_of}
 use Rattle.ci_overflow.specs.Lists.{bytes_at, first_free, IsInOrder}
 use Rattle.ci_overflow.specs.Rooms.{IsOwnRoom, OnlyOneChanges, TakesRoom}
 use Rattle.ci_overflow.specs.Freed.{TakesBack, GivesBack}
-use Rattle.ci_overflow.proofs.Finds.{same_or, base-some}
+use Rattle.ci_overflow.proofs.Finds.{base-some}
 use Rattle.ci_overflow.proofs.FaultLemmas.{kind-base}
 use Rattle.ci_space.specs.declared.head.Head.{Head}
 use Rattle.fp_model.specs.declared.definitions.SegDef.{SegDef}
@@ -22,8 +22,9 @@ use Rattle.root_anchor.specs.Chains.{anchor_count}
 use Rattle.root_anchor.proofs.PutLemmas.{uow_below, put_keeps_order, put_keeps_head, put_keeps_kinds, put_keeps_sequential}
 use Rattle.root_anchor.proofs.OwnLemmas.{room_keeps_own}
 use Rattle.root_anchor.proofs.Apart.{contains-one}
-use Rattle.root_anchor.proofs.Members.{none_in, front_in}
 use Rattle.anchor_elements.proofs.Pointers.{same_pointer}
+use Rattle.plain_laws.proofs.Alls.{contains_first, contains_nothing}
+use Rattle.plain_laws.proofs.Numbers.{same_or_other}
 
 -- ---- where elements stand
 
@@ -66,7 +67,7 @@ base_not_sequential shape uow ci u b k e =
 pub one-stays : (old new : List (List ℕ)) (at p : Pointer) (type : ℕ) (content : List ℕ)
     → OnlyOneChanges old new at.0 at.1 → p ≢ at → HasUsed (bytes_at old p.0) p.1 type content
     → HasUsed (bytes_at new p.0) p.1 type content
-one-stays old new at p type content o n h = elim (same_or p.0 at.0) as
+one-stays old new at p type content o n h = elim (same_or_other p.0 at.0) as
     (λ _. HasUsed (bytes_at new p.0) p.1 type content) [
       | inl e ↦
           let P : ℕ → Type 0 = λ c. HasUsed (bytes_at old c) p.1 type content in
@@ -78,7 +79,7 @@ one-stays old new at p type content o n h = elim (same_or p.0 at.0) as
 pub one-comes : (old new : List (List ℕ)) (at p : Pointer) (type : ℕ) (content : List ℕ)
     → OnlyOneChanges old new at.0 at.1 → p ≢ at → HasUsed (bytes_at new p.0) p.1 type content
     → HasUsed (bytes_at old p.0) p.1 type content
-one-comes old new at p type content o n h = elim (same_or p.0 at.0) as
+one-comes old new at p type content o n h = elim (same_or_other p.0 at.0) as
     (λ _. HasUsed (bytes_at old p.0) p.1 type content) [
       | inl e ↦
           let P : ℕ → Type 0 = λ c. HasUsed (bytes_at old c) p.1 type content in
@@ -95,7 +96,7 @@ not_one : (at p : Pointer) → p ≢ at → ¬ Contains (at ∷ []) p
 not_one at p n c = n (sym (contains-one at p c))
 
 not_in : (at p : Pointer) → ¬ Contains (at ∷ []) p → p ≢ at
-not_in at p n e = let P : Pointer → Type 0 = λ q. Contains (at ∷ []) q in n (subst P (sym e) (front_in at []))
+not_in at p n e = let P : Pointer → Type 0 = λ q. Contains (at ∷ []) q in n (subst P (sym e) (contains_first at []))
 
 -- ---- the steps
 
@@ -107,8 +108,8 @@ gives-back shape old new at t g o = record {
   none_comes = λ p type content n h.
       let d : p ≢ at = λ e. t.gone (is_at new at p e (record { segment = type; content = content; used = h })) in
       (not_one at p d, one-comes old new at p type content t.others d h);
-  fresh = λ p c. absurd (none_in p c);
-  used = λ p c. absurd (none_in p c);
+  fresh = λ p c. absurd (contains_nothing p c);
+  used = λ p c. absurd (contains_nothing p c);
   once = tt;
   roots = t.roots;
   kinds = t.kinds;
@@ -130,12 +131,12 @@ finds-room shape old new anchor n room f o u b =
       stay = λ p type content _ h. one-stays old new room p type content f.others
           (λ e. f.fresh (is_at old room p e (record { segment = type; content = content; used = h }))) h;
       none_comes = λ p type content m h. (
-        none_in p,
+        contains_nothing p,
         one-comes old new room p type content f.others (not_in room p m) h,
       );
       fresh = λ p c. inr (λ x. f.fresh (is_at old room p (sym (contains-one room p c)) x));
       used = λ p c. is_at new p room (contains-one room p c) used;
-      once = (none_in room, tt);
+      once = (contains_nothing room, tt);
       roots = f.roots;
       kinds = f.kinds;
       in_order = o;
@@ -157,7 +158,7 @@ puts-segment shape types old new type at s p u = record {
   fresh = λ q c. inl c;
   used = λ q c. is_at new q at (contains-one at q c)
       (record { segment = type; content = p.stands.content; used = p.stands.used });
-  once = (none_in at, tt);
+  once = (contains_nothing at, tt);
   roots = λ ci. ap (λ (h : Head). h.root) (put_keeps_head types old new type at s p ci);
   kinds = put_keeps_kinds types old new type at s p;
   in_order = λ o. put_keeps_order shape types old new type at s o u p;
@@ -180,7 +181,7 @@ keeps-place shape types area anchor type planned at e h =
         fresh = λ p c. inl c;
         used = λ p c. is_at area p at (contains-one at p c)
             (record { segment = r.segment; content = r.content; used = r.used });
-        once = (none_in at, tt);
+        once = (contains_nothing at, tt);
         roots = λ ci. refl;
         kinds = λ ci i. (i, refl);
         in_order = λ o. o;
@@ -230,6 +231,6 @@ pub takes-one : (shape : Shape) (old new : List (List ℕ)) (anchor n : ℕ) (ro
     → TakesRoom shape old new anchor n room → length new ≤ length old + 1
 takes-one shape old new anchor n room t = elim t.source as (λ _. length new ≤ length old + 1) [
   | inl k ↦ omega (arith, k.same_number)
-  | inr j ↦ elim (same_or (first_free old) 0) as (λ _. length new ≤ length old + 1)
+  | inr j ↦ elim (same_or_other (first_free old) 0) as (λ _. length new ≤ length old + 1)
       [ inl z ↦ omega (arith, (j.from_end z).2) | inr z ↦ omega (arith, (j.from_free z).2) ]
 ]

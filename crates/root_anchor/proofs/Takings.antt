@@ -12,9 +12,9 @@ use Rattle.anchor_elements.specs.Elements.{Pointer}
 use Rattle.root_anchor.specs.inside.Rebuilding.{ArePlaced, AreReserved, BuildsPlan, BuildsRoots, Exchanges, HaveRoom, IsDirect, IsPlaced, IsPlanned, IsTaking, TakesPlace, TakesPlaces, and_place, reserved, types_of, types_of_roots}
 use Rattle.root_anchor.specs.declared.plan.Planned.{Planned}
 use Rattle.root_anchor.proofs.Exchanging.{exchange-again, exchange-both}
-use Rattle.root_anchor.proofs.Members.{front_in, behind_in, in_cases}
 use Rattle.root_anchor.proofs.OwnLemmas.{own-there}
 use Rattle.root_anchor.proofs.Planning.{exchange-none, places-right, reserved-append, reserved-disjoint, reserved-left, reserved-right, rooms-stay, rooms-used, still-reserved}
+use Rattle.plain_laws.proofs.Alls.{contains_cases, contains_first, contains_later}
 
 pub none-taken : (shape : Shape) (types : List SegDef) (area : List (List ℕ)) (anchor : ℕ) (plan : List Planned)
     → IsTaking shape types area area anchor plan plan []
@@ -49,13 +49,13 @@ own_place : (shape : Shape) (area : List (List ℕ)) (anchor : ℕ) (planned : O
     (at : Pointer) → (planned ≡ Some at) ⊎ IsOwnRoom shape area anchor at.0
     → Contains (and_place planned places) at ⊎ IsOwnRoom shape area anchor at.0
 own_place shape area anchor planned places at (inl e) =
-    let P : Option Pointer → Type 0 = λ o. Contains (and_place o places) at in inl (subst P (sym e) (front_in at places))
+    let P : Option Pointer → Type 0 = λ o. Contains (and_place o places) at in inl (subst P (sym e) (contains_first at places))
 own_place shape area anchor planned places at (inr o) = inr o
 
 and_more : (planned : Option Pointer) (places : List Pointer) (at : Pointer) → Contains places at
     → Contains (and_place planned places) at
 and_more None places at c = c
-and_more (Some p) places at c = behind_in p places at c
+and_more (Some p) places at c = contains_later p places at c
 
 pub taken-on : (shape : Shape) (types : List SegDef) (old now new : List (List ℕ)) (anchor : ℕ)
     (plan left before taken : List Planned) (p : Planned) (at : Pointer) → AreReserved types old plan
@@ -89,7 +89,7 @@ taken-on shape types old now new anchor plan left before taken p at r t e x =
               t.takes.rooms,
         );
         placed = (record { place = at; is_place = refl }, t.takes.placed);
-        own = λ q c. elim (in_cases at (reserved taken) q c) as
+        own = λ q c. elim (contains_cases at (reserved taken) q c) as
             (λ _. Contains (reserved (p ∷ t.done)) q ⊎ IsOwnRoom shape new anchor q.0) [
               | inl y ↦ (let S : Pointer → Type 0 = λ z. Contains (reserved (p ∷ t.done)) z
                   ⊎ IsOwnRoom shape new anchor z.0 in

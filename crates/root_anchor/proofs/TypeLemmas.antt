@@ -16,6 +16,9 @@ use Rattle.anchor_elements.specs.Elements.{AreTypes}
 use Rattle.root_anchor.specs.Stored.{is_newest, is_storable, are_storable, form_step, is_in_form, rows_have_form}
 use Rattle.root_anchor.specs.inside.Stored.{row_has_form}
 use Rattle.root_anchor.specs.inside.Rebuilding.{IsDirect}
+use Rattle.plain_laws.proofs.Truths.{first_of_both, not_true, second_of_both}
+use Rattle.plain_laws.proofs.Numbers.{number_is}
+use Rattle.plain_laws.proofs.Options.{some_weaker}
 
 -- ---- what a type fits into
 
@@ -112,22 +115,6 @@ numbers_pass test at [] k b = absurd (omega (arith, b))
 numbers_pass test at (def ∷ defs) k b = pick test at def defs (numbers_from (at + 1) test defs)
     (numbers_pass test (at + 1) defs) (test def) k refl b
 
-and_left : (a b : Bool) → (a && b) ≡ true → a ≡ true
-and_left true b e = refl
-and_left false b e = absurd (cc)
-
-and_right : (a b : Bool) → (a && b) ≡ true → b ≡ true
-and_right true b e = e
-and_right false b e = absurd (cc)
-
-not_true : (a : Bool) → not a ≡ true → a ≡ false
-not_true true e = absurd (cc)
-not_true false e = refl
-
-some_weaker : {X : Type 0} (o : Option X) (P Q : X → Type 0) → ((x : X) → P x → Q x) → IfSome o P → IfSome o Q
-some_weaker None P Q f h = tt
-some_weaker (Some x) P Q f h = f x h
-
 child_passes : (types : List SegDef) (parent k : ℕ) → k < length (child_types types parent)
     → IsPassing (λ def. is_child_of parent def && not def.sequential) 0 (get_or (child_types types parent) k 0) types
 child_passes types parent k b = numbers_pass (λ def. is_child_of parent def && not def.sequential) 0 types k b
@@ -142,7 +129,7 @@ child-direct types parent k b =
       defined = omega (arith, p.within, p.is_number);
       direct = subst P e (some_weaker (slice_get types p.j)
           (λ def. (is_child_of parent def && not def.sequential) ≡ true) (λ def. def.sequential ≡ false)
-          (λ def h. not_true def.sequential (and_right (is_child_of parent def) (not def.sequential) h)) p.passes);
+          (λ def h. not_true def.sequential (second_of_both (is_child_of parent def) (not def.sequential) h)) p.passes);
     }
 
 -- the first type has no parent
@@ -152,25 +139,21 @@ first_no_child [] parent j h b p e = omega (arith, b)
 first_no_child (def ∷ defs) parent zero h b p e =
     let n : def.parent ≡ None = h.0.2 refl in
     let f : is_child_of parent def ≡ false = ap (λ (o : Option ℕ). option_map_or (λ p. p == parent) o false) n in
-    let t : is_child_of parent def ≡ true = and_left (is_child_of parent def) (not def.sequential) p in
+    let t : is_child_of parent def ≡ true = first_of_both (is_child_of parent def) (not def.sequential) p in
     let x : false ≡ true = sym f ∙ t in
     cc
 first_no_child (def ∷ defs) parent (suc j) h b p e = omega (arith, e)
 
--- a type's number is greater than its parent's
-same_numbers : (a b : ℕ) → (a == b) ≡ true → a ≡ b
-same_numbers a b e = grind arith
-
 is_parent : (o : Option ℕ) (parent place : ℕ) → option_map_or (λ p. p == parent) o false ≡ true
     → IfSome o (λ p. p < place) → parent < place
 is_parent None parent place e h = absurd (cc)
-is_parent (Some p) parent place e h = omega (arith, same_numbers p parent e, h)
+is_parent (Some p) parent place e h = omega (arith, number_is p parent e, h)
 
 above_parent : (types : List SegDef) (place parent j : ℕ) → HavePlaces place types → j < length types
     → IfSome (slice_get types j) (λ def. (is_child_of parent def && not def.sequential) ≡ true) → parent < place + j
 above_parent [] place parent j h b p = absurd (omega (arith, b))
 above_parent (def ∷ defs) place parent zero h b p =
-    omega (arith, is_parent def.parent parent place (and_left (is_child_of parent def) (not def.sequential) p) h.0.0)
+    omega (arith, is_parent def.parent parent place (first_of_both (is_child_of parent def) (not def.sequential) p) h.0.0)
 above_parent (def ∷ defs) place parent (suc j) h b p =
     omega (arith, above_parent defs (place + 1) parent j h.1 (omega (arith, b)) p)
 
@@ -215,7 +198,7 @@ rows-count types (t ∷ kinds) [] e = absurd (cc)
 rows-count types (t ∷ kinds) (row ∷ rows) e =
     omega (
       arith,
-      rows-count types kinds rows (and_right (row_has_form types t row)
+      rows-count types kinds rows (second_of_both (row_has_form types t row)
           (rows_have_form types kinds rows) e),
     )
 
@@ -224,10 +207,10 @@ row_at : (types : List SegDef) (kinds : List ℕ) (rows : List (List Node)) (k :
     → row_has_form types (get_or kinds k 0) (get_or rows k d) ≡ true
 row_at types kinds [] k d e b = absurd (omega (arith, b))
 row_at types [] (row ∷ rows) k d e b = absurd (cc)
-row_at types (t ∷ kinds) (row ∷ rows) zero d e b = and_left (row_has_form types t row)
+row_at types (t ∷ kinds) (row ∷ rows) zero d e b = first_of_both (row_has_form types t row)
     (rows_have_form types kinds rows) e
 row_at types (t ∷ kinds) (row ∷ rows) (suc k) d e b =
-    row_at types kinds rows k d (and_right (row_has_form types t row)
+    row_at types kinds rows k d (second_of_both (row_has_form types t row)
     (rows_have_form types kinds rows) e) (omega (arith, b))
 
 pub rows-row : (types : List SegDef) (kinds : List ℕ) (rows : List (List Node)) (k : ℕ) (row : List Node) (type : ℕ)
@@ -239,9 +222,9 @@ rows-row types kinds rows k row type e b r t = ap (λ x. row_has_form types x ro
 all_in_form : (types : List SegDef) (type : ℕ) (row : List Node) (k : ℕ) (d : Node)
     → row_has_form types type row ≡ true → k < length row → is_in_form types (get_or row k d) type ≡ true
 all_in_form types type [] k d e b = absurd (omega (arith, b))
-all_in_form types type (n ∷ row) zero d e b = and_left (is_in_form types n type) (row_has_form types type row) e
+all_in_form types type (n ∷ row) zero d e b = first_of_both (is_in_form types n type) (row_has_form types type row) e
 all_in_form types type (n ∷ row) (suc k) d e b = all_in_form types type row k d
-    (and_right (is_in_form types n type) (row_has_form types type row) e) (omega (arith, b))
+    (second_of_both (is_in_form types n type) (row_has_form types type row) e) (omega (arith, b))
 
 -- a segment of a row is as long as its type says, and has rows in form below it
 pub record HasForm (types : List SegDef) (type : ℕ) (node : Node) : Type 0 where
@@ -252,7 +235,7 @@ same_length : (types : List SegDef) (o : Option SegDef) (bytes : List ℕ)
     → option_map_or (λ (def : SegDef). length bytes == def.length) o false ≡ true
     → length bytes ≡ option_map_or (λ (def : SegDef). def.length) o 0
 same_length types None bytes e = absurd (cc)
-same_length types (Some def) bytes e = same_numbers (length bytes) def.length e
+same_length types (Some def) bytes e = number_is (length bytes) def.length e
 
 pub length-is : (types : List SegDef) (type : ℕ) (bytes : List ℕ) → has_length types type bytes ≡ true
     → length bytes ≡ segment_length types type
@@ -270,9 +253,9 @@ row-node types type row k node e b n =
     in
     record {
       bytes = length-is types type (out-Node node).bytes
-          (and_left (has_length types type (out-Node node).bytes)
+          (first_of_both (has_length types type (out-Node node).bytes)
           (rows_have_form types (child_types types type) (out-Node node).children) step);
-      rows = and_right (has_length types type (out-Node node).bytes)
+      rows = second_of_both (has_length types type (out-Node node).bytes)
           (rows_have_form types (child_types types type) (out-Node node).children) step;
     }
 
@@ -286,19 +269,19 @@ pub record RootHasForm (types : List SegDef) (root : Root) : Type 0 where
 pub root_at : (types : List SegDef) (roots : List Root) (k : ℕ) (d : Root) → are_storable types roots ≡ true
     → k < length roots → is_storable types (get_or roots k d) ≡ true
 root_at types [] k d e b = absurd (omega (arith, b))
-root_at types (r ∷ roots) zero d e b = and_left (is_storable types r) (are_storable types roots) e
+root_at types (r ∷ roots) zero d e b = first_of_both (is_storable types r) (are_storable types roots) e
 root_at types (r ∷ roots) (suc k) d e b = root_at types roots k d
-    (and_right (is_storable types r) (are_storable types roots) e) (omega (arith, b))
+    (second_of_both (is_storable types r) (are_storable types roots) e) (omega (arith, b))
 
 pub root_form : (types : List SegDef) (root : Root) → is_storable types root ≡ true → RootHasForm types root
 root_form types root here =
     let one : Bool = has_length types 0 root.bytes in
     let two : Bool = rows_have_form types (child_types types 0) root.children in
-    let both : (one && two) ≡ true = and_left (one && two) (is_newest types root.seqs) here in
+    let both : (one && two) ≡ true = first_of_both (one && two) (is_newest types root.seqs) here in
     record {
-      bytes = length-is types 0 root.bytes (and_left one two both);
-      rows = and_right one two both;
-      seqs = and_right (one && two) (is_newest types root.seqs) here;
+      bytes = length-is types 0 root.bytes (first_of_both one two both);
+      rows = second_of_both one two both;
+      seqs = second_of_both (one && two) (is_newest types root.seqs) here;
     }
 
 pub roots-root : (types : List SegDef) (roots : List Root) (k : ℕ) (root : Root) → are_storable types roots ≡ true

@@ -1,13 +1,11 @@
 -- What a walk has met.
 use Rattle.std.proofs.Common.{◌≡◌, ◌≢◌, ◌↔◌, inl, inr, ℕ, ◌+◌, ◌*◌, ◌<◌, ◌≤◌, List, [], ◌∷◌, ◌++◌, length, map, reverse, get_or, Bool, true, false, cond, ◌&&◌, ◌==◌, IsTrue, refl, sym, ap, subst, ◌∙◌, arith}
 use Rattle.std.specs.List.{Contains, All, AllPairs, IsDistinct}
-use Rattle.std.specs.Ordering.{is_eq, nat_cmp, ordering_then}
-use Rattle.std.specs.declared.cmp.Ordering.{Ordering}
-use Rattle.std.specs.declared.cmp.Ordering.TheVariants.{Less, Equal, Greater}
+use Rattle.std.specs.Ordering.{is_eq, nat_cmp}
 use Rattle.std.specs.BTreeMap.{is_at}
 use Rattle.std.specs.BTreeSet.{contains}
 use Rattle.std.proofs.lemmas.Bool.{cases_Bool, eqb-true, eq-eqb}
-use Rattle.std.proofs.lemmas.Bool.Decides.{nat_tests, Decides-eqb}
+use Rattle.std.proofs.lemmas.Bool.Decides.{Decides-eqb}
 use Rattle.std.proofs.lemmas.List.{map-append, reverse-append, length-map, get_or-map}
 use Rattle.std.proofs.lemmas.List.Elements.{Contains-append_left, Contains-append_right, Contains-append_cases, Contains-push, Contains-push_cases, All-push, All-map, All-contains, Contains-get_or}
 use Rattle.std.proofs.lemmas.List.Quantifiers.{all_pairs_push}
@@ -23,7 +21,9 @@ use Rattle.anchor_elements.specs.Wrong.{IsWrong, leads_back}
 use Rattle.root_anchor.specs.inside.Standing.{places_of, Stands}
 use Rattle.root_anchor.specs.inside.Walking.{place_cmp, met_of, IsWalk, IsNoted, AllStand}
 use Rattle.root_anchor.proofs.OneChain.{one_segment}
-use Rattle.root_anchor.proofs.Members.{none_in, front_in, behind_in, in_cases}
+use Rattle.plain_laws.proofs.Alls.{contains_cases, contains_first, contains_later, contains_nothing}
+use Rattle.plain_laws.proofs.Numbers.{both_numbers}
+use Rattle.plain_laws.proofs.Orderings.{number_test, then_test}
 
 -- ---- the other way round
 
@@ -33,8 +33,8 @@ turned y ys = reverse-append (y ∷ []) ys
 pub in_reverse : {X : Type 0} (xs : List X) (x : X) → Contains xs x → Contains (reverse xs) x
 in_reverse [] x h = h
 in_reverse (y ∷ ys) x h = subst (λ l. Contains l x) (sym (turned y ys))
-    (elim (in_cases y ys x h) as (λ _. Contains (reverse ys ++ y ∷ []) x) [
-      | inl e ↦ Contains-append_right (reverse ys) (y ∷ []) x (subst (λ z. Contains (y ∷ []) z) e (front_in y []))
+    (elim (contains_cases y ys x h) as (λ _. Contains (reverse ys ++ y ∷ []) x) [
+      | inl e ↦ Contains-append_right (reverse ys) (y ∷ []) x (subst (λ z. Contains (y ∷ []) z) e (contains_first y []))
       | inr l ↦ Contains-append_left (reverse ys) (y ∷ []) x (in_reverse ys x l)
     ])
 
@@ -42,9 +42,9 @@ pub reverse_in : {X : Type 0} (xs : List X) (x : X) → Contains (reverse xs) x 
 reverse_in [] x h = h
 reverse_in (y ∷ ys) x h = elim (Contains-append_cases (reverse ys) (y ∷ []) x
     (subst (λ l. Contains l x) (turned y ys) h)) as (λ _. Contains (y ∷ ys) x) [
-      | inl l ↦ behind_in y ys x (reverse_in ys x l)
-      | inr l ↦ elim (in_cases y [] x l) as (λ _. Contains (y ∷ ys) x)
-          [ inl e ↦ subst (λ z. Contains (y ∷ ys) z) e (front_in y ys) | inr none ↦ absurd (none_in x none) ]
+      | inl l ↦ contains_later y ys x (reverse_in ys x l)
+      | inr l ↦ elim (contains_cases y [] x l) as (λ _. Contains (y ∷ ys) x)
+          [ inl e ↦ subst (λ z. Contains (y ∷ ys) z) e (contains_first y ys) | inr none ↦ absurd (contains_nothing x none) ]
     ]
 
 -- ---- a place is known exactly where it was met
@@ -56,26 +56,12 @@ met_known number walk at known e w = (
   λ m. subst (λ b. IsTrue b) (sym e) ((w.known at).1 (reverse_in (places_of walk.met.items) at m)),
 )
 
-then_test : (o p : Ordering) → is_eq (ordering_then o p) ≡ (is_eq o && is_eq p)
-then_test Less p = refl
-then_test Equal p = refl
-then_test Greater p = refl
-
-number_test : (a b : ℕ) → is_eq (nat_cmp a b) ≡ (a == b)
-number_test a b = grind (arith, nat_tests)
-
 place_test : (a b : Pointer) → is_at (place_cmp a) b ≡ (a.0 == b.0 && a.1 == b.1)
 place_test a b = then_test (nat_cmp a.0 b.0) (nat_cmp a.1 b.1) ∙ ap (λ t. t && is_eq (nat_cmp a.1 b.1))
     (number_test a.0 b.0) ∙ ap (λ t. (a.0 == b.0) && t) (number_test a.1 b.1)
 
-both_same : (a b c d : ℕ) → (a == c && b == d) ≡ true → (a ≡ c) × (b ≡ d)
-both_same a b c d h = elim (cases_Bool (a == c)) as (λ _. (a ≡ c) × (b ≡ d)) [
-  | inl t ↦ (eqb-true a c t, eqb-true b d (sym (ap (λ x. x && (b == d)) t) ∙ h))
-  | inr f ↦ (let z : false ≡ true = sym (ap (λ x. x && (b == d)) f) ∙ h in cc)
-]
-
 one_place : (a b : Pointer) → is_at (place_cmp a) b ≡ true → a ≡ b
-one_place (x, y) (z, w) h = let s = both_same x y z w (sym (place_test (x, y) (z, w)) ∙ h) in
+one_place (x, y) (z, w) h = let s = both_numbers x y z w (sym (place_test (x, y) (z, w)) ∙ h) in
     ap (λ k. (k, y)) s.0 ∙ ap (λ k. (z, k)) s.1
 
 its_place : (a : Pointer) → is_at (place_cmp a) a ≡ true

@@ -10,13 +10,7 @@ use Rattle.root_changes.specs.declared.differing.Difference.TheVariants.{Nowhere
 use Rattle.root_changes.specs.Differing.{DifferAt, DifferIn, NodesDiffer, own, lower, RowDiffers, RootDiffers, own_root, lower_root, HaveSameOwn}
 use Rattle.root_changes.specs.Comparing.{TellsPlace, TellsBelow}
 use Rattle.root_changes.specs.inside.Comparing.{Tells, DifferSoFar, TellsSoFar, joined}
-
-pub same_or : (a b : ℕ) → (a ≡ b) ⊎ (a ≢ b)
-same_or a b = elim (cases_lt a b) as (λ _. (a ≡ b) ⊎ (a ≢ b)) [
-  | inl l ↦ inr (λ e. omega (arith, l, e))
-  | inr l ↦ elim (cases_lt b a) as (λ _. (a ≡ b) ⊎ (a ≢ b))
-      [ inl m ↦ inr (λ e. omega (arith, m, e)) | inr m ↦ inl (omega (arith, l, m)) ]
-]
+use Rattle.plain_laws.proofs.Numbers.{same_or_other}
 
 -- ---- two lists that differ at one place
 
@@ -69,7 +63,7 @@ same_there {xs = xs} {ys = ys} {k = k} {x = x} {y = y} d e =
 -- a place at which they have two things that aren't the same is the one
 pub one_place : {A : Type 0} {xs ys : List A} {k j : ℕ} {x y a b : A} → DifferAt xs ys k x y → slice_get xs j ≡ Some a
     → slice_get ys j ≡ Some b → a ≢ b → j ≡ k
-one_place {k = k} {j = j} d p q n = elim (same_or j k) as (λ _. j ≡ k) [
+one_place {k = k} {j = j} d p q n = elim (same_or_other j k) as (λ _. j ≡ k) [
   | inl e ↦ e
   | inr m ↦ absurd (n (let h = d.elsewhere j m in cc))
 ]
@@ -85,7 +79,7 @@ none_so_far Differ xs ys = record {
 }
 
 pub below_or : (j n : ℕ) → j < suc n → (j < n) ⊎ (j ≡ n)
-below_or j n b = elim (same_or j n) as (λ _. (j < n) ⊎ (j ≡ n)) [ inl e ↦ inr e | inr m ↦ inl (omega (arith, b, m)) ]
+below_or j n b = elim (same_or_other j n) as (λ _. (j < n) ⊎ (j ≡ n)) [ inl e ↦ inr e | inr m ↦ inl (omega (arith, b, m)) ]
 
 module _ {A : Type 0} (Differ : A → A → Type 0) (apart : (x y : A) → Differ x y → x ≢ y) (xs ys : List A) (n : ℕ)
     (a b : A) (first : slice_get xs n ≡ Some a) (second : slice_get ys n ≡ Some b) where
@@ -195,17 +189,9 @@ told_next Differ apart xs ys n a b d item next l w p q e t i =
 
 -- ---- of whole lists
 
-below_or_past : (j n : ℕ) → (j < n) ⊎ (n ≤ j)
-below_or_past j zero = inr (omega arith)
-below_or_past zero (suc n) = inl (omega arith)
-below_or_past (suc j) (suc n) = elim (below_or_past j n) as (λ _. (suc j < suc n) ⊎ (suc n ≤ suc j)) [
-  | inl b ↦ inl (omega (arith, b))
-  | inr b ↦ inr (omega (arith, b))
-]
-
 past_same : {A : Type 0} (xs ys : List A) (n : ℕ) → length xs ≤ n → length ys ≤ n → (j : ℕ)
     → (j < n → slice_get xs j ≡ slice_get ys j) → slice_get xs j ≡ slice_get ys j
-past_same xs ys n l m j f = elim (below_or_past j n) as (λ _. slice_get xs j ≡ slice_get ys j) [
+past_same xs ys n l m j f = elim (cases_lt j n) as (λ _. slice_get xs j ≡ slice_get ys j) [
   | inl b ↦ f b
   | inr b ↦ slice_get_past xs j (omega (arith, l, b)) ∙ sym (slice_get_past ys j (omega (arith, m, b)))
 ]

@@ -13,7 +13,9 @@ use Rattle.root_changes.specs.declared.differing.Difference.TheVariants.{Nowhere
 use Rattle.root_changes.specs.inside.Comparing.{Tells}
 use Rattle.root_changes.specs.Telling.{HasNew, GainIn, GainWithin, TellsGain, IsOwnNode, node_rows, root_rows, TellsRowGain, TellsRootGain}
 use Rattle.root_changes.specs.inside.Telling.{TellsNew, BeginAlike, TellsWithin}
-use Rattle.root_changes.proofs.ComparingLemmas.{same_or, below_or, all_same, shifted, rest_same, same_lengths, same_there, nodes_apart, roots_apart, rows_apart}
+use Rattle.root_changes.proofs.ComparingLemmas.{below_or, all_same, shifted, rest_same, same_lengths, same_there, nodes_apart, roots_apart, rows_apart}
+use Rattle.plain_laws.proofs.Places.{get_seam}
+use Rattle.plain_laws.proofs.Numbers.{same_or_other}
 
 -- ---- what two lists begin with in common
 
@@ -22,7 +24,7 @@ alike_whole xs ys n b e f = all_same xs ys n (omega (arith, e)) (omega (arith, f
 
 -- the same lists have all in common
 pub alike_same : {A : Type 0} (xs ys : List A) (n : ℕ) → BeginAlike xs ys n → xs ≡ ys → n ≡ length xs
-alike_same xs ys n b e = elim (same_or n (length xs)) as (λ _. n ≡ length xs) [
+alike_same xs ys n b e = elim (same_or_other n (length xs)) as (λ _. n ≡ length xs) [
   | inl f ↦ f
   | inr m ↦ (let l : n < length xs = omega (arith, b.within, m) in
       absurd (b.no_more l (subst (λ (zs : List _). n < length zs) e l) (ap (λ (zs : List _). slice_get zs n) e)))
@@ -132,7 +134,7 @@ pub alike_up_to : {A : Type 0} (xs ys : List A) (k j : ℕ) (x y : A) → Differ
 alike_up_to xs ys k j x y d n b =
     let l : j < length xs = slice_get_within xs j x d.first in
     let m : j < length ys = slice_get_within ys j y d.second in
-    elim (same_or k j) as (λ _. k ≡ j) [
+    elim (same_or_other k j) as (λ _. k ≡ j) [
       | inl e ↦ e
       | inr o ↦ elim (below_or_not j k) as (λ _. k ≡ j) [
         | inl c ↦ absurd (n (let h = b.alike j c in let p = d.first in let q = d.second in cc))
@@ -470,14 +472,10 @@ as_rest {A} xs ys i j m b =
 
 -- ---- the item that comes, and those in front of it
 
-item_behind : {A : Type 0} (front back : List A) (y : A) → slice_get (front ++ y ∷ back) (length front) ≡ Some y
-item_behind [] back y = refl
-item_behind (a ∷ front) back y = item_behind front back y
-
 pub more_item : {A : Type 0} (xs ys : List A) (k : ℕ) (y : A) → OneMore xs ys k y → slice_get ys k ≡ Some y
 more_item xs ys k y m =
     ap (λ (u : List _). slice_get u k) m.more
-    ∙ ap (λ i. slice_get (m.front ++ y ∷ m.back) i) (sym m.place) ∙ item_behind m.front m.back y
+    ∙ ap (λ i. slice_get (m.front ++ y ∷ m.back) i) (sym m.place) ∙ get_seam m.front m.back y
 
 pub more_read : {A : Type 0} (xs ys : List A) (k : ℕ) (y z : A) → OneMore xs ys k y → z ≡ get_or ys k z
     → (k < length ys) × (z ≡ y)

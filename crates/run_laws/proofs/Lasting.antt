@@ -27,12 +27,13 @@ use Rattle.fp_model.specs.Runs.{RunStep, Runs}
 use Rattle.fp_model.specs.WellFormed.{AreDefs}
 use Rattle.fp_model.proofs.FrameLemmas.{turn_keeps, turn_adds}
 use Rattle.serial_order.specs.ProductView.{view_of}
-use Rattle.serial_order.proofs.Lists.{some_is, contains_nothing, contains_cases}
 use Rattle.serial_order.proofs.ProductLaws.{laws_of}
 use Rattle.serial_order.proofs.Turns.{run_kept, rest_kept, at_rest_rests}
 use Rattle.run_laws.specs.Fresh.{IsNumbered}
 use Rattle.run_laws.specs.Lives.{GoesOnBehind, Lives}
 use Rattle.run_laws.proofs.Once.{get_taken, numbered_more, used_once, repeats_line}
+use Rattle.plain_laws.proofs.Alls.{contains_cases, contains_nothing}
+use Rattle.std.proofs.lemmas.Option.{same_Some}
 
 -- ---- a run takes nothing back
 
@@ -433,7 +434,7 @@ module _ (defs : Defs) (scripts : List Script) (are : AreDefs defs) (format : �
     same_entry : (h : History) (i j : ℕ) (a b : Entry) → i ≡ j → slice_get h.entries i ≡ Some a
         → slice_get h.entries j ≡ Some b → a ≡ b
     same_entry h i j a b same is is2 =
-        some_is a b (sym is ∙ ap (λ (k : ℕ). slice_get h.entries k) same ∙ is2)
+        same_Some a b (sym is ∙ ap (λ (k : ℕ). slice_get h.entries k) same ∙ is2)
 
     -- One entry has the effect, over all runs.
     pub one_effect : (m m2 : Machine) (i j : ℕ) (a b : Entry) (name : Name) (number : ℕ)

@@ -10,9 +10,9 @@ use Rattle.fp_model.specs.History.{History, Request, Accepts, Refuses}
 use Rattle.fp_model.specs.Lasts.{Last, format_at, lasts_of, last_of}
 use Rattle.fp_model.specs.Messages.{MessageFault, message_of}
 use Rattle.fp_model.specs.Product.{by_script, by_last, by_number, by_message, request_of}
-use Rattle.serial_order.proofs.Lists.{some_is, none_is_not_some}
 use Rattle.serial_order.proofs.Lines.{accepts, refused_is_not_accepted}
 use Rattle.run_laws.specs.Fresh.{last_behind, IsFresh}
+use Rattle.std.proofs.lemmas.Option.{none-some, same_Some}
 
 -- a number above the last one, if there is one
 abbrev pub IsAbove : ℕ → Option Last → Type 0
@@ -30,7 +30,7 @@ pub data Asked (scripts : List Script) (m : Message) (number : ℕ) (o : Option 
 
 asked_by_last : (scripts : List Script) (m : Message) (number : ℕ) (o : Option Last)
     → Asked scripts m number o (by_last scripts m number o)
-asked_by_last scripts m number None = Goes (λ last e. absurd (none_is_not_some last e)) refl
+asked_by_last scripts m number None = Goes (λ last e. absurd (none-some last e)) refl
 asked_by_last scripts m number (Some last) =
     by (nat_lt number last.number) refl (number == last.number) refl
   where
@@ -42,7 +42,7 @@ asked_by_last scripts m number (Some last) =
     by false is true same_is = Repeats last refl (grind (arith, common_steps, same_is)) refl
     by false is false same_is =
         Goes (λ other e. (
-        let at : last.number ≡ other.number = ap (λ (l : Last). l.number) (some_is last other e) in
+        let at : last.number ≡ other.number = ap (λ (l : Last). l.number) (same_Some last other e) in
         let more : last.number < number = grind (arith, common_steps, is, same_is) in
         omega (arith, at, more))) refl
 

@@ -21,7 +21,6 @@ use Rattle.fp_model.specs.WellFormed.{AreDefs}
 use Rattle.serial_order.specs.Laws.{Laws}
 use Rattle.serial_order.specs.Kept.{count, Kept}
 use Rattle.serial_order.specs.ProductView.{view_of}
-use Rattle.serial_order.proofs.Lists.{some_is, none_is_not_some}
 use Rattle.serial_order.proofs.ProductLaws.{laws_of}
 use Rattle.serial_order.proofs.Replies.{exclusive_serves}
 use Rattle.serial_order.proofs.Lists.{true_is_not_false}
@@ -40,6 +39,7 @@ use Rattle.run_laws.specs.Fresh.{IsFresh}
 use Rattle.run_laws.proofs.Wanted.{needs_alike}
 use Rattle.run_laws.proofs.Tidy.{run_tidy, rest_tidy}
 use Rattle.run_laws.proofs.Numbers.{fresh_of}
+use Rattle.std.proofs.lemmas.Option.{none-some, same_Some}
 
 -- ---- what scripts cost together
 
@@ -48,7 +48,7 @@ all_calls scripts = sum_by (λ s. full_cost s.statements) scripts
 
 found_within : (scripts : List Script) (p : Script → Bool) (s : Script) → find p scripts ≡ Some s
     → full_cost s.statements ≤ all_calls scripts
-found_within [] p s e = absurd (none_is_not_some s e)
+found_within [] p s e = absurd (none-some s e)
 found_within (x ∷ xs) p s e = by (p x) e (λ f. found_within xs p s f)
   where
     of : Script → ℕ
@@ -59,7 +59,7 @@ found_within (x ∷ xs) p s e = by (p x) e (λ f. found_within xs p s f)
         → full_cost s.statements ≤ all_calls (x ∷ xs)
     by true f later =
         let same : full_cost x.statements ≡ full_cost s.statements
-        = ap (λ (q : Script). full_cost q.statements) (some_is x s f) in
+        = ap (λ (q : Script). full_cost q.statements) (same_Some x s f) in
         omega (arith, same, sum_by-cons (λ (q : Script). full_cost q.statements) x xs)
     by false f later = omega (arith, later f, sum_by-cons (λ (q : Script). full_cost q.statements) x xs)
 
@@ -85,11 +85,11 @@ module _ (defs : Defs) (scripts : List Script) (m : Machine) (region : ℕ) (t :
           → option_map (λ (r : Resource). let n : Needed = record { resource = r; mode = Exclusive } in n) o
           ≡ Some needed
           → serves (held_as m.locks region needed.resource) needed.mode ≡ false
-      by None is f = absurd (none_is_not_some needed f)
+      by None is f = absurd (none-some needed f)
       by (Some r) is f =
-          subst (λ (n : Needed). serves (held_as m.locks region n.resource) n.mode ≡ false) (some_is _ needed f)
+          subst (λ (n : Needed). serves (held_as m.locks region n.resource) n.mode ≡ false) (same_Some _ needed f)
           (end_needed defs t.point.own (held_as m.locks region) reply r is).is_unserved
-  isnt_served (Rolls code) e = absurd (none_is_not_some needed e)
+  isnt_served (Rolls code) e = absurd (none-some needed e)
 
   pub isnt_exclusive : (ask : Ask) → wanted (rules_of defs scripts) m region t ask ≡ Some needed
       → ¬ (held_as m.locks region needed.resource ≡ Some Exclusive)

@@ -3,7 +3,7 @@ use Rattle.std.proofs.Common.{◌≡◌, ◌⊎◌, ℕ, zero, suc, ◌+◌, ◌
 use Rattle.std.specs.Prelude.{find, filter, unwrap_or, option_map, is_some, nat_lt}
 use Rattle.std.proofs.lemmas.Grind.{common_steps}
 use Rattle.std.specs.Option.{option_map_or}
-use Rattle.std.proofs.lemmas.Bool.{cases_eq}
+use Rattle.std.proofs.lemmas.Bool.{cases_eq, cases_Bool}
 use Rattle.std.proofs.lemmas.List.{take-append-le, take-append-drop}
 use Rattle.std.proofs.Math.Seq.{take-append_seam}
 use Rattle.fp_model.specs.declared.definitions.Defs.{Defs}
@@ -26,31 +26,34 @@ use Rattle.fp_model.specs.ReplyLine.{addressee, verdict, line_for, line_text}
 use Rattle.fp_model.specs.Rules.{Rules}
 use Rattle.fp_model.specs.SerialHistory.{Leads, Comes, LeadsOn, IsSerial}
 use Rattle.fp_model.proofs.HistoryLemmas.{front, join, one_end, entries_put, format_stays}
-use Rattle.serial_order.proofs.Lists.{some_is, none_is_not_some, true_is_not_false, tested}
-use Rattle.serial_order.proofs.Locks.{text_is_same}
-use Rattle.serial_order.proofs.Terminals.{name_is}
+use Rattle.serial_order.proofs.Lists.{true_is_not_false}
 use Rattle.serial_order.proofs.Lines.{error_is_not_ok, refused_is_not_accepted, lasts_push, last_leaves}
 use Rattle.run_laws.specs.Fresh as fresh
 use Rattle.run_laws.specs.Fresh.{IsNumbered, WasUsed}
 use Rattle.run_laws.proofs.Numbers.{IsAbove, Asked, Goes, Is_old, Repeats, asked_of}
+use Rattle.plain_laws.proofs.Places.{get_seam}
+use Rattle.model_laws.proofs.Texts.{same_names, text_is_same}
+use Rattle.std.proofs.lemmas.Option.{none-some, same_Some}
+use Rattle.plain_laws.proofs.Truths.{not_true}
+use Rattle.model_laws.proofs.Entries.{last_put}
 
 -- ---- lists
 
 -- a list around a place
 split_at : {X : Type 0} (xs : List X) (i : ℕ) (x : X) → slice_get xs i ≡ Some x → xs ≡ take i xs ++ x ∷ drop (suc i) xs
-split_at [] i x e = absurd (none_is_not_some x e)
-split_at (y ∷ ys) zero x e = ap (λ q. q ∷ ys) (some_is y x e)
+split_at [] i x e = absurd (none-some x e)
+split_at (y ∷ ys) zero x e = ap (λ q. q ∷ ys) (same_Some y x e)
 split_at (y ∷ ys) (suc i) x e = ap (λ q. y ∷ q) (split_at ys i x e)
 
 taken_length : {X : Type 0} (xs : List X) (i : ℕ) (x : X) → slice_get xs i ≡ Some x → length (take i xs) ≡ i
-taken_length [] i x e = absurd (none_is_not_some x e)
+taken_length [] i x e = absurd (none-some x e)
 taken_length (y ∷ ys) zero x e = refl
 taken_length (y ∷ ys) (suc i) x e = let r = taken_length ys i x e in omega (arith, r)
 
 get_dropped : {X : Type 0} (xs : List X) (n i : ℕ) (x : X) → slice_get xs (n + i) ≡ Some x
     → slice_get (drop n xs) i ≡ Some x
 get_dropped xs zero i x e = ap (λ (k : ℕ). slice_get xs k) (let f : i ≡ 0 + i = omega arith in f) ∙ e
-get_dropped [] (suc n) i x e = absurd (none_is_not_some x e)
+get_dropped [] (suc n) i x e = absurd (none-some x e)
 get_dropped (y ∷ ys) (suc n) i x e =
     get_dropped ys n i x
     (ap (λ (k : ℕ). slice_get (y ∷ ys) k) (let f : suc (n + i) ≡ suc n + i = omega arith in f) ∙ e)
@@ -59,24 +62,19 @@ get_dropped (y ∷ ys) (suc n) i x e =
 take_around : {X : Type 0} (xs : List X) (i j : ℕ) (x : X) → slice_get xs i ≡ Some x → i < j
     → take j xs ≡ take i xs ++ x ∷ take (j - suc i) (drop (suc i) xs)
 take_around xs i zero x e h = absurd (omega (arith, h))
-take_around [] i (suc j) x e h = absurd (none_is_not_some x e)
+take_around [] i (suc j) x e h = absurd (none-some x e)
 take_around (y ∷ ys) zero (suc j) x e h =
-    ap (λ q. q ∷ take j ys) (some_is y x e)
+    ap (λ q. q ∷ take j ys) (same_Some y x e)
     ∙ ap (λ (n : ℕ). x ∷ take n ys) (let f : j ≡ suc j - 1 = omega arith in f)
 take_around (y ∷ ys) (suc i) (suc j) x e h =
     ap (λ q. y ∷ q) (take_around ys i j x e (omega (arith, h)))
     ∙ ap (λ (n : ℕ). y ∷ (take i ys ++ x ∷ take n (drop (suc i) ys)))
     (let f : j - suc i ≡ suc j - suc (suc i) = omega arith in f)
 
--- what stands behind a list
-get_seam : {X : Type 0} (xs ys : List X) (x : X) → slice_get (xs ++ x ∷ ys) (length xs) ≡ Some x
-get_seam [] ys x = refl
-get_seam (z ∷ zs) ys x = get_seam zs ys x
-
 -- a longer list has what stood before
 get_more : {X : Type 0} (xs ys : List X) (i : ℕ) (x : X) → slice_get xs i ≡ Some x
     → (slice_get (xs ++ ys) i ≡ Some x) × (i < length xs)
-get_more [] ys i x e = absurd (none_is_not_some x e)
+get_more [] ys i x e = absurd (none-some x e)
 get_more (z ∷ zs) ys zero x e = (e, omega arith)
 get_more (z ∷ zs) ys (suc i) x e = let r = get_more zs ys i x e in (r.0, omega (arith, r.1))
 
@@ -84,7 +82,7 @@ get_more (z ∷ zs) ys (suc i) x e = let r = get_more zs ys i x e in (r.0, omega
 pub get_taken : {X : Type 0} (xs : List X) (n i : ℕ) (x : X) → i < n → slice_get xs i ≡ Some x
     → (slice_get (take n xs) i ≡ Some x) × (take i (take n xs) ≡ take i xs)
 get_taken xs zero i x h e = absurd (omega (arith, h))
-get_taken [] (suc n) i x h e = absurd (none_is_not_some x e)
+get_taken [] (suc n) i x h e = absurd (none-some x e)
 get_taken (y ∷ ys) (suc n) zero x h e = (e, refl)
 get_taken (y ∷ ys) (suc n) (suc i) x h e =
     let r = get_taken ys n i x (omega (arith, h)) e in (r.0, ap (λ q. y ∷ q) r.1)
@@ -102,7 +100,7 @@ find_put_same p key x (y ∷ ys) here none =
         → (find p ys ≡ None → find p (put_by_key key x ys) ≡ Some x)
         → (less : Bool)
         → find p (if less then x ∷ y ∷ ys else y ∷ put_by_key key x ys) ≡ Some x
-    by true is f later less = absurd (none_is_not_some y (sym f))
+    by true is f later less = absurd (none-some y (sym f))
     by false is f later true = rw here refl
     by false is f later false = rw is (later f)
 
@@ -116,19 +114,6 @@ find_none p q (x ∷ xs) apart = by (q x) refl (find_none p q xs apart)
         → find p (if b then x ∷ filter q xs else filter q xs) ≡ None
     by true is later = rw (apart x is) later
     by false is later = later
-
-not_is : (b : Bool) → not b ≡ true → b ≡ false
-not_is true e = sym e
-not_is false e = refl
-
--- a number that is used is its terminal's last one
-last_put : (last : Last) (lasts : List Last) → last_of last.lterm (with_last last lasts) ≡ Some last
-last_put last lasts =
-    let key : Last → List ℕ = λ l. l.lterm.0 in
-    find_put_same (λ (l : Last). same_text (key l) (key last)) key last (drop_key key (key last) lasts)
-    (text_is_same (key last))
-    (find_none (λ (l : Last). same_text (key l) (key last)) (λ (l : Last). not (same_text (key l) (key last))) lasts
-    (λ l is. not_is (same_text (key l) (key last)) is))
 
 -- ---- what an entry uses
 
@@ -159,9 +144,9 @@ used_by format e l is = either (uses_number e.outcome) refl is
               (line_text e) [];
         } in x) number ≡ Some l
         → UsedBy format e l
-    from_message uses m reads None has f = absurd (none_is_not_some l f)
+    from_message uses m reads None has f = absurd (none-some l f)
     from_message uses m reads (Some n) has f =
-        let same = some_is _ l f in
+        let same = same_Some _ l f in
         record {
           uses = uses;
           message = m;
@@ -173,14 +158,14 @@ used_by format e l is = either (uses_number e.outcome) refl is
 
     from_line : uses_number e.outcome ≡ true → (r : Result Message MessageFault) → message_of format e.line ≡ r
         → last_in (unwrap_or (line_text e) []) r ≡ Some l → UsedBy format e l
-    from_line uses (Err fault) reads f = absurd (none_is_not_some l f)
+    from_line uses (Err fault) reads f = absurd (none-some l f)
     from_line uses (Ok m) reads f = from_message uses m reads m.number refl f
 
     either : (b : Bool) → uses_number e.outcome ≡ b
         → (if b then last_in (unwrap_or (line_text e) []) (message_of format e.line) else None) ≡ Some l
         → UsedBy format e l
     either true uses f = from_line uses (message_of format e.line) refl f
-    either false uses f = absurd (none_is_not_some l f)
+    either false uses f = absurd (none-some l f)
 
 -- and back
 uses_of : (format : ℕ) (e : Entry) (m : Message) (number : ℕ) → uses_number e.outcome ≡ true
@@ -324,14 +309,14 @@ module _ (defs : Defs) (scripts : List Script) where
     where
       by : (o : Option Last) → last_by (format_of h) e ≡ o → Step h e next name
       by None is = Stays (last_put_behind h e next name None is)
-      by (Some l) is = elim (tested (same_text l.lterm.0 name.0)) [
+      by (Some l) is = elim (cases_Bool (same_text l.lterm.0 name.0)) [
         | inr other ↦ Stays (last_put_behind h e next name (Some l) is
             ∙ last_leaves name l (lasts_of h.format h.entries)
             (λ same. true_is_not_false (sym (ap (λ (t : List ℕ). same_text l.lterm.0 t) (sym same)
             ∙ text_is_same l.lterm.0) ∙ other)))
         | inl here ↦ (
             let u = used_by (format_of h) e l is in
-            let same : l.lterm ≡ name = name_is l.lterm name here in
+            let same : l.lterm ≡ name = same_names l.lterm name here in
             let put : fresh.last_behind (with_entry e next h) l.lterm ≡ Some l
             = last_put_behind h e next l.lterm (Some l) is ∙ last_put l (lasts_of h.format h.entries) in
             let above = comes_above h e next u.message l.number u.reads u.has u.uses c in
@@ -449,7 +434,7 @@ module _ (defs : Defs) (scripts : List Script) where
       by (inr u) step = inr (whole u)
       by (inl here) (Stays same) = inl (sym same ∙ here)
       by (inl here) (Rises l2 u of put above) =
-          let one : l2 ≡ l = some_is l2 l (sym put ∙ here) in
+          let one : l2 ≡ l = same_Some l2 l (sym put ∙ here) in
           inr (whole (used_more h.format (h.entries ++ e ∷ []) es name l.number l.line
           (subst (λ (x : Last). HasUsed h.format (h.entries ++ e ∷ []) name x.number x.line) one
           (used_last h e name l2 u of))))
@@ -653,7 +638,7 @@ module _ (defs : Defs) (scripts : List Script) where
     repeats_line j b name number line n repeated =
         let g = again j b name number line n repeated in
         elim (origin start (take j h.entries) g.here.at name g.last g.here.leads g.is) [
-          | inl none ↦ absurd (none_is_not_some g.last none)
+          | inl none ↦ absurd (none-some g.last none)
           | inr u ↦ (
               let at = get_more (take j h.entries) (drop j h.entries) u.place u.entry u.numbered.stands in
               let more = numbered_more h.format (take j h.entries) (drop j h.entries) u.place u.entry name g.last.number

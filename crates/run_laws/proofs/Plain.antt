@@ -23,10 +23,13 @@ use Rattle.fp_model.specs.Serial.{Ending, refused_as}
 use Rattle.fp_model.specs.Waiting.{Lock, is_blocked, conflicts, waits, WaitsAlong, IsCycle, without_region}
 use Rattle.fp_model.specs.Machine.{Transaction, Region, Idle, Active, Machine, region_at, with_region, with_entry_of, without_locks, ended_with, entry_of, entry_here, is_among, terminal_in, next_line, without_line, with_message, with_refusal, with_request_of, with_line, taken_in, told, next_group, with_group, sealed_once, sealed_times, sealed_all}
 use Rattle.fp_model.specs.Turns.{Environment, NoFault, DeviceFault, OutOfMemory, Act, Answers, Gains, Waits, Deadlocks, Retries_at_cycle, Finishes, Retries_at_verify, is_verify_failure, asks, wanted, ending_of, as_lock, noted, with_answer, begun_in, tried_again, refused_with, requests_with, Does, queue_of_region, messages_for, begins_in, RegionTurn, is_area_held, PurgeTurn, Turn}
-use Rattle.serial_order.proofs.Lists.{none_is_not_some, true_is_not_false, tested, contains_cases, contains_in_filter, contains_in_map, contains_in_flat_map, none_passes}
-use Rattle.drain_laws.proofs.Live.{others_locks}
+use Rattle.serial_order.proofs.Lists.{true_is_not_false, contains_in_filter, contains_in_map, contains_in_flat_map, none_passes}
 use Rattle.drain_laws.proofs.Cycles.{ClosesOne, cycle_or_none}
 use Rattle.run_laws.specs.Determined.{plain_entry, plain_history, plain}
+use Rattle.plain_laws.proofs.Alls.{contains_cases}
+use Rattle.std.proofs.lemmas.Option.{none-some}
+use Rattle.serial_order.proofs.Waits.{others_only}
+use Rattle.std.proofs.lemmas.Bool.{cases_Bool}
 
 -- What this needs of the rules: lines ask for the same, and replies are the same, whatever items and cycles are.
 pub record AreBlind (rules : Rules) (seen : Outcome → Outcome) : Type 0 where
@@ -150,7 +153,7 @@ module _ (rules : Rules) (seen : Outcome → Outcome) (blind : AreBlind rules se
   without_end : (b : Machine) (region : ℕ) (t : Transaction) (ask : Ask) (ending : Ending)
       → ending_of rules b.history.now t ask ≡ Some ending
       → without_lock b region t ask ≡ ends_so b region t (Some ending)
-  without_end b region t (Asks call) ending e = absurd (none_is_not_some ending e)
+  without_end b region t (Asks call) ending e = absurd (none-some ending e)
   without_end b region t (Replies reply) ending e = ap (λ (o : Option Ending). ends_so b region t o) e
   without_end b region t (Rolls code) ending e = ap (λ (o : Option Ending). ends_so b region t o) e
 
@@ -195,11 +198,11 @@ module _ (rules : Rules) (seen : Outcome → Outcome) (blind : AreBlind rules se
       elim (contains_cases l (without_region region b.requests) of.0 of.1.0) [
         | inl same ↦ subst (λ (q : Lock). is_blocked b.locks q ≡ true) (sym same)
             (any_passes (conflicts of.0) b.locks by.0 is.0 is.1)
-        | inr there ↦ absurd ((others_locks region b.requests of.0 there).1 (sym mine))
+        | inr there ↦ absurd ((others_only region b.requests of.0 there).1 (sym mine))
       ]
     where
       any_passes : (p : Lock → Bool) (xs : List Lock) (x : Lock) → Contains xs x → p x ≡ true → list_any p xs ≡ true
-      any_passes p xs x c is = elim (tested (list_any p xs)) [
+      any_passes p xs x c is = elim (cases_Bool (list_any p xs)) [
         | inl some ↦ some
         | inr none ↦ absurd (true_is_not_false (sym is ∙ none_passes p xs x none c))
       ]

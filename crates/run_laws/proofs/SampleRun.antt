@@ -26,8 +26,9 @@ use Rattle.fp_model.specs.Machine.{Machine, Transaction, Region as RegionState, 
 use Rattle.fp_model.specs.Turns.{NoFault, Act, Answers, Gains, Waits, Deadlocks, Retries_at_cycle, Finishes, Retries_at_verify, AreItemsFor, is_verify_failure, ClosesCycle, IsAtEnd, Does, RegionTurn, Turn, ending_of, tried_again, requests_with, begins_in, with_answer, begun_in, as_lock, asks, wanted}
 use Rattle.fp_model.specs.Runs.{RunStep, step_events, Runs}
 use Rattle.run_laws.specs.Sample.{sample_defs, sample_rules, at_start, the_events, no_faults, the_entries}
-use Rattle.serial_order.proofs.Lists.{true_is_not_false, contains_nothing, contains_first, contains_later, contains_cases}
+use Rattle.serial_order.proofs.Lists.{true_is_not_false}
 use Rattle.run_laws.proofs.SampleAsks.{to_change, to_cross, to_verify, to_upgrade, hold_of, change_of_b, verify_of_b, root_get, change_asks_a, change_asks_b, change_asks_repl, change_replies, cross_asks_b, cross_asks_a, verify_asks, verify_replies, verify_meets_change, upgrade_looks, upgrade_holds, upgrade_replies}
+use Rattle.plain_laws.proofs.Alls.{contains_cases, contains_first, contains_later, contains_nothing}
 
 -- ---- the locks that are needed
 

@@ -29,17 +29,23 @@ use Rattle.fp_model.specs.Turns.{Environment, NoFault, DeviceFault, OutOfMemory,
 use Rattle.fp_model.specs.Runs.{RunStep, Runs}
 use Rattle.serial_order.specs.Laws.{View, IsSame, Laws}
 use Rattle.serial_order.specs.Kept.{line_count, count, StandOnce, Kept}
-use Rattle.serial_order.proofs.Lists.{some_is, none_is_not_some, true_is_not_false, tested, contains_nothing, contains_cases, none_passes}
+use Rattle.serial_order.proofs.Lists.{true_is_not_false, none_passes}
 use Rattle.serial_order.proofs.Locks.{held_by, held_somehow, others_not_exclusive, without_other}
-use Rattle.serial_order.proofs.Terminals.{name_is, sum_put, counts_none, region_put, unsealed_more, seals, told_counts, log_once}
+use Rattle.serial_order.proofs.Terminals.{sum_put, counts_none, region_put, unsealed_more, seals, told_counts, log_once}
 use Rattle.drain_laws.specs.Measure.{Gauge}
 use Rattle.drain_laws.specs.Live.{EndLaws, IsReached}
-use Rattle.drain_laws.proofs.Live.{idle_is_not, is_transaction, same_region, other_region, others_locks, queued_one, none_told}
+use Rattle.drain_laws.proofs.Live.{idle_is_not, same_region, other_region, queued_one, none_told}
 use Rattle.serial_order.proofs.Turns.{turn_kept}
 use Rattle.drain_laws.proofs.Rounds.{reached_then}
 use Rattle.drain_laws.proofs.Sums.{gained_other}
 use Rattle.run_laws.specs.Requests.{IsCurrent, times_in}
 use Rattle.run_laws.specs.inside.Requests.{IsTidy, WantsByHeld}
+use Rattle.plain_laws.proofs.Alls.{contains_cases, contains_nothing}
+use Rattle.serial_order.proofs.Kept.{is_transaction}
+use Rattle.model_laws.proofs.Texts.{same_names}
+use Rattle.std.proofs.lemmas.Option.{none-some, same_Some}
+use Rattle.serial_order.proofs.Waits.{others_only}
+use Rattle.std.proofs.lemmas.Bool.{cases_Bool}
 
 -- ---- how often a name is among others
 
@@ -66,7 +72,7 @@ module _ (told_names : List Name) where
       other : is_among told_names n ≡ false → (b : Bool) → same_name name n ≡ b
           → weight name n ≡ 0
       other free true same =
-          absurd (true_is_not_false (sym is ∙ ap (is_among told_names) (name_is name n same) ∙ free))
+          absurd (true_is_not_false (sym is ∙ ap (is_among told_names) (same_names name n same) ∙ free))
       other free false same = rw same refl
 
       by : (b : Bool) → is_among told_names n ≡ b → times_in (others ns) name ≡ 0
@@ -85,7 +91,7 @@ module _ (told_names : List Name) where
       other : is_among told_names n ≡ true → (b : Bool) → same_name name n ≡ b
           → weight name n ≡ 0
       other told_too true same =
-          absurd (true_is_not_false (sym told_too ∙ ap (is_among told_names) (sym (name_is name n same)) ∙ is))
+          absurd (true_is_not_false (sym told_too ∙ ap (is_among told_names) (sym (same_names name n same)) ∙ is))
       other told_too false same = rw same refl
 
       by : (b : Bool) → is_among told_names n ≡ b → times_in (others ns) name ≡ times_in ns name
@@ -181,17 +187,17 @@ module _ (rules : Rules) where
         → ending_of rules m.history.now t ask ≡ Some ending
         → (r : Resource) → ¬ (held_as m.locks (suc place) r ≡ Some Exclusive)
         → view.seen r ending.next ≡ view.seen r m.history.now
-    ends_leave m place t (Asks call) ending k is none e r free = absurd (none_is_not_some ending e)
+    ends_leave m place t (Asks call) ending k is none e r free = absurd (none-some ending e)
     ends_leave m place t (Replies reply) ending k is none e r free =
         ap (λ (x : Ending). view.seen r x.next)
-        (sym (some_is (settled_as m.history.now reply (rules.settle m.history.now t.point.own)) ending e))
+        (sym (same_Some (settled_as m.history.now reply (rules.settle m.history.now t.point.own)) ending e))
         ∙ by (rules.settle m.history.now t.point.own) refl
       where
         lacks_none : (o : Option Resource)
             → option_map (λ (q : Resource). let n : Needed = record { resource = q; mode = Exclusive } in n) o ≡ None
             → o ≡ None
         lacks_none None e = refl
-        lacks_none (Some q) e = absurd (none_is_not_some _ (sym e))
+        lacks_none (Some q) e = absurd (none-some _ (sym e))
 
         by : (s : Settlement) → rules.settle m.history.now t.point.own ≡ s
             → view.seen r (settled_as m.history.now reply s).next ≡ view.seen r m.history.now
@@ -203,7 +209,7 @@ module _ (rules : Rules) where
         by (FillsPart set begin end n) to = refl
     ends_leave m place t (Rolls code) ending k is none e r free =
         ap (λ (x : Ending). view.seen r x.next)
-        (sym (some_is (refused_as (outcome.Roll code) m.history.now) ending e))
+        (sym (same_Some (refused_as (outcome.Roll code) m.history.now) ending e))
 
     -- so nothing that another holds
     others_see : (m : Machine) (place s : ℕ) (next : Db) → Kept rules view m
@@ -237,7 +243,7 @@ module _ (rules : Rules) where
       current = others_current view by_held m (ended_with (suc place) e next m) place Idle refl
           (λ q other r. without_other (suc place) q r m.locks other)
           (λ q other. others_see m place q next k leaves other)
-          (λ l c. others_locks (suc place) m.requests l c) s.current;
+          (λ l c. others_only (suc place) m.requests l c) s.current;
     }
 
     -- it begins again
@@ -251,7 +257,7 @@ module _ (rules : Rules) where
           current = others_current view by_held m (tried_again rules (suc place) t m) place (Active u) refl
               (λ q other r. without_other (suc place) q r m.locks other)
               (λ q other r held. refl)
-              (λ l c. others_locks (suc place) m.requests l c) s.current;
+              (λ l c. others_only (suc place) m.requests l c) s.current;
         }
 
     -- a region that isn't current has no request
@@ -280,9 +286,9 @@ module _ (rules : Rules) where
               (λ l c. (
                 c,
                 has_none m place l s c (λ v at wants.
-                    none_is_not_some _ (sym free
+                    none-some _ (sym free
                     ∙ ap (λ (x : Transaction). wanted rules m (suc place) x (asks rules x))
-                    (is_transaction t v (some_is (Active t) (Active v) (sym is ∙ at))) ∙ wants)),
+                    (is_transaction t v (same_Some (Active t) (Active v) (sym is ∙ at))) ∙ wants)),
               )) s.current;
         }
 
@@ -294,7 +300,7 @@ module _ (rules : Rules) where
       busy = s.busy;
       current = λ q c. (
           let m2 : Machine = record m { locks = l ∷ m.locks; requests = without_region (suc place) m.requests } in
-          let old = others_locks (suc place) m.requests q c in
+          let old = others_only (suc place) m.requests q c in
           stays_current view by_held m m2 q (λ t is. same_region m m2 q.region (Active t) refl is)
           (λ r. gained_other l m.locks q.region (λ e. old.1 (e ∙ of)) r) (λ r held. refl) (s.current q old.0));
     }
@@ -312,7 +318,7 @@ module _ (rules : Rules) where
           elim (contains_cases l (without_region (suc place) m.requests) q c) [
             | inl new ↦ subst (λ (x : Lock). IsCurrent rules m2 x) new (record { t = t; stands = is; wants = wants })
             | inr there ↦ (
-                let old = others_locks (suc place) m.requests q there in
+                let old = others_only (suc place) m.requests q there in
                 stays_current view by_held m m2 q (λ u at. same_region m m2 q.region (Active u) refl at)
                 (λ r. refl) (λ r held. refl) (s.current q old.0))
           ]);
@@ -353,7 +359,7 @@ module _ (rules : Rules) where
           );
           current = others_current view by_held m (begins_in rules m (suc place) (message ∷ messages)) place (Active u)
               refl (λ q other r. refl) (λ q other r held. refl)
-              (λ l c. (c, has_none m place l s c (λ v at wants. idle_is_not v (some_is Idle (Active v) (sym is ∙ at)))))
+              (λ l c. (c, has_none m place l s c (λ v at wants. idle_is_not v (same_Some Idle (Active v) (sym is ∙ at)))))
               s.current;
         }
 
@@ -454,7 +460,7 @@ module _ (rules : Rules) where
         → IsTidy rules m → IsTidy rules (with_group rules (next_group rules m) m)
     sealed_group m once s =
         frame m (with_group rules (next_group rules m) m) refl refl refl refl
-        (λ name. by name (tested (is_among (told rules (next_group rules m)) name))) s
+        (λ name. by name (cases_Bool (is_among (told rules (next_group rules m)) name))) s
       where
         group : List Entry
         group = next_group rules m

@@ -4,7 +4,6 @@ use Rattle.std.specs.Prelude.{Result, Ok, Err, OnOk}
 use Rattle.drain_laws.specs.Live.{IsReached}
 use Rattle.drain_laws.specs.ProductGauge.{gauge_of}
 use Rattle.drain_laws.proofs.OfSystem.{turn_of}
-use Rattle.drain_laws.proofs.Rounds.{relined}
 use Rattle.fp_model.specs.declared.definitions.Defs.{Defs}
 use Rattle.fp_model.specs.declared.events.Event.{Event}
 use Rattle.fp_model.specs.declared.events.Event.TheVariants as event
@@ -29,16 +28,9 @@ use Rattle.fp_core.proofs.Steps.{left_alone}
 use Rattle.schedule_runs.specs.Standing.{IsDone, IsLeftOnWay, IsStopped, StandsOnWay}
 use Rattle.schedule_runs.specs.Ways.{Comes, next_event}
 use Rattle.schedule_runs.proofs.WayLemmas.{comes_behind, comes_drained, comes_still, comes_turn, comes_within, drain_rounds, is_before}
+use Rattle.fp_core.proofs.Bounds.{reached_too}
 
 -- ---- what a drain rests on
-
--- what is reached under the rules and definitions of one engine is so under those of another that has the same
-reached_too : (old new : Engine) (m : Machine) → rules_in new ≡ rules_in old → new.defs.now ≡ old.defs.now
-    → IsReached (rules_in old) (gauge_of old.defs.now) m
-    → IsReached (rules_in new) (gauge_of new.defs.now) m
-reached_too old new m same defs h =
-    subst (λ (r : Rules). IsReached r (gauge_of new.defs.now) m) (sym same)
-    (subst (λ (d : Defs). IsReached (rules_in old) (gauge_of d) m) (sym defs) h)
 
 -- a turn keeps it
 pub reached_turn : (old new : Engine) (e : Event) (m : Machine) (given : Did) → rules_in new ≡ rules_in old
@@ -51,16 +43,6 @@ reached_turn old new e m given same defs h t =
       reached = turn_of new.defs.now new.scripts.now.scripts setup.defined setup.cheap m e t.environment t.after
           (reached_too old new m same defs h) t.turn;
     }
-
--- so does a step, of some lines
-pub reached_step : (old new : Engine) (e : Event) (m : Machine) (lines : List (List ℕ)) (given : Did)
-    → rules_in new ≡ rules_in old → new.defs.now ≡ old.defs.now → IsReachedBy old m
-    → Turned e (record m { lines = lines }) new given → (m2 : Machine) × IsReachedBy new m2
-reached_step old new e m lines given same defs before t = (
-  t.after,
-  reached_turn old new e (record m { lines = lines }) given same defs
-      (relined (rules_in old) (gauge_of old.defs.now) m lines before.reached) t,
-)
 
 module _ (origin : Origin) (events : List Event) (m : Machine) (old : Disk) (old_lines : Lines) (first : Engine) where
   -- the definitions and rules of the run

@@ -21,9 +21,9 @@ use Rattle.fp_model.specs.Serial.{Ending, refused_as, settled_as}
 use Rattle.fp_model.specs.Turns.{Environment, NoFault, DeviceFault, OutOfMemory, Act, Answers, Gains, Waits, Deadlocks, Retries_at_cycle, Finishes, Retries_at_verify, Does, RegionTurn, PurgeTurn, Turn, asks, begins_in, ending_of, is_area_held, messages_for}
 use Rattle.fp_model.proofs.FrameLemmas.{turn_keeps}
 use Rattle.fp_core.proofs.Ends.{format_more}
-use Rattle.fp_core.proofs.Places.{some_same}
 use Rattle.serial_order.specs.Laws.{IsRefusal}
 use Rattle.sealed_runs.specs.Behind.{KeepsFormat}
+use Rattle.std.proofs.lemmas.Option.{same_Some}
 
 -- such an outcome leaves the format
 abbrev IsPlain : Outcome → Type 0
@@ -87,10 +87,10 @@ module _ (rules : Rules)
   ending_plain now t (Asks call) ending e = absurd cc
   ending_plain now t (Replies reply) ending e =
       subst (λ (x : Ending). IsPlain x.outcome)
-      (some_same (settled_as now reply (rules.settle now t.point.own)) ending e)
+      (same_Some (settled_as now reply (rules.settle now t.point.own)) ending e)
       (settled_plain now reply (rules.settle now t.point.own))
   ending_plain now t (Rolls code) ending e =
-      subst (λ (x : Ending). IsPlain x.outcome) (some_same (refused_as (outcome.Roll code) now) ending e)
+      subst (λ (x : Ending). IsPlain x.outcome) (same_Some (refused_as (outcome.Roll code) now) ending e)
       (λ format. refl)
 
   does_keep : (m : Machine) (region : ℕ) (t : Transaction) (act : Act) (m2 : Machine) → Does rules m region t act m2

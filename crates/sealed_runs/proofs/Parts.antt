@@ -3,13 +3,12 @@ use Rattle.std.proofs.Common.{◌≡◌, refl, sym, ◌∙◌, ap, arith, ℕ, z
 use Rattle.std.specs.Prelude.{Some, slice_get}
 use Rattle.std.proofs.Math.Seq.{take-add}
 use Rattle.std.proofs.lemmas.List.{append-nil}
-use Rattle.std.proofs.lemmas.List.Concat.{flat_map-append, flat_map-cons}
+use Rattle.std.proofs.lemmas.List.Concat.{flat_map-cons}
 use Rattle.std.proofs.lemmas.List.Sums.{fold-append}
 use Rattle.fp_model.specs.declared.database.Db.{Db}
 use Rattle.fp_model.specs.declared.log.Entry.{Entry}
 use Rattle.fp_model.specs.declared.log.Outcome.{Outcome}
 use Rattle.fp_model.specs.declared.log.Outcome.TheVariants as outcome
-use Rattle.fp_model.specs.Groups.{entries_of}
 use Rattle.fp_model.specs.History.{History, states_of, with_entry}
 use Rattle.fp_model.specs.Items.{items_of}
 use Rattle.fp_model.specs.Lasts.{format_at, format_behind}
@@ -43,18 +42,6 @@ take_more n k xs =
     ∙ sym (take-add n (length (take k (drop n xs))) xs)
 
 -- ---- entries and items
-
--- the entries of groups and one more
-pub entries_one : (gs : List (List Entry)) (es : List Entry) → entries_of (gs ++ es ∷ []) ≡ entries_of gs ++ es
-entries_one gs es =
-    flat_map-append (λ (x : List Entry). x) gs (es ∷ [])
-    ∙ ap (λ l. entries_of gs ++ l) (flat_map-cons (λ (x : List Entry). x) es [] ∙ append-nil es)
-
-pub entries_both : (gs hs : List (List Entry)) → entries_of (gs ++ hs) ≡ entries_of gs ++ entries_of hs
-entries_both gs hs = flat_map-append (λ (x : List Entry). x) gs hs
-
-pub items_both : (es fs : List Entry) → items_of (es ++ fs) ≡ items_of es ++ items_of fs
-items_both es fs = flat_map-append (λ (x : Entry). x.items) es fs
 
 pub items_first : (e : Entry) (es : List Entry) → items_of (e ∷ es) ≡ e.items ++ items_of es
 items_first e es = flat_map-cons (λ (x : Entry). x.items) e es

@@ -16,7 +16,8 @@ use Rattle.fp_model.specs.Rules.{Rules}
 use Rattle.fp_model.specs.Runs.{RunStep, Runs}
 use Rattle.fp_model.specs.Turns.{Environment, NoFault, DeviceFault, OutOfMemory, Turn}
 use Rattle.fp_model.proofs.FrameLemmas.{turn_adds, turn_keeps}
-use Rattle.sealed_runs.proofs.Parts.{entries_one, take_more}
+use Rattle.sealed_runs.proofs.Parts.{take_more}
+use Rattle.model_laws.proofs.Entries.{entries_push}
 
 module _ (rules : Rules) (earlier : List Entry) where
   -- Behind the entries from before, the groups have the first entries, as many as are sealed; and just their lines were
@@ -33,7 +34,7 @@ module _ (rules : Rules) (earlier : List Entry) where
   more_sealed m within has =
       let group = next_group rules m in
       let entries = m.history.entries in
-      let all = entries_one m.groups group in
+      let all = entries_push m.groups group in
       record {
         within = omega (
           arith,

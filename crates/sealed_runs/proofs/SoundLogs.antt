@@ -31,8 +31,9 @@ use Rattle.serial_order.proofs.Lines.{refuses_only}
 use Rattle.sealed_runs.specs.Behind.{GoesFurther, IsBehind, KeepsFormat}
 use Rattle.sealed_runs.proofs.Formats.{run_format}
 use Rattle.sealed_runs.proofs.Making.{made_on}
-use Rattle.sealed_runs.proofs.Parts.{entries_both, format_within, items_both}
+use Rattle.sealed_runs.proofs.Parts.{format_within}
 use Rattle.sealed_runs.proofs.Sealing.{HasSealed, run_from_rest, times_history, times_sealed}
+use Rattle.model_laws.proofs.Entries.{entries-append, items-append}
 
 -- the text that another one begins with
 begins_with : (text more whole : List ℕ) → whole ≡ text ++ more → text ≡ take (length text) whole
@@ -143,14 +144,14 @@ module _ (defs : Defs) (scripts : List Script) (its_format : ℕ) (earlier : Lis
         holds = log.holds;
         stands = log.stands;
         all =
-            ap (λ (es : List Entry). es ++ later) all ∙ sym (entries_both before (sealed_times times rules m).groups);
+            ap (λ (es : List Entry). es ++ later) all ∙ sym (entries-append before (sealed_times times rules m).groups);
         last = last.now;
         history = record { history = last; leads = all_front.1.0; ends = refl };
         fit =
-            subst (AreFit defs) (sym (items_both earlier later))
+            subst (AreFit defs) (sym (items-append earlier later))
             (fit-append defs (items_of earlier) (items_of later) sound.fit made.1);
         made =
-            ap (with_items defs.msdbs (start defs).msdbs) (items_both earlier later)
+            ap (with_items defs.msdbs (start defs).msdbs) (items-append earlier later)
             ∙ fold-append (with_item defs.msdbs) (start defs).msdbs (items_of earlier) (items_of later)
             ∙ ap (λ ms. with_items defs.msdbs ms (items_of later))
             (sound.made ∙ ap (λ (db : Db). db.msdbs)

@@ -1,6 +1,5 @@
 -- The keys in the ordered set, as resources among others.
-use Rattle.std.proofs.Common.{refl, arith, ◌≡◌, ℕ, List, [], ◌∷◌, map, Bool, true, false, ◌&&◌, ◌||◌, ◌==◌, ap, sym, ◌∙◌}
-use Rattle.std.proofs.lemmas.Bool.Decides.{nat_tests}
+use Rattle.std.proofs.Common.{refl, ◌≡◌, List, [], ◌∷◌, map, Bool, true, false, ◌&&◌, ◌||◌, ◌==◌, ap, sym, ◌∙◌}
 use Rattle.std.specs.List.{list_any}
 use Rattle.std.specs.declared.cmp.Ordering.{Ordering}
 use Rattle.std.specs.declared.cmp.Ordering.TheVariants.{Less, Equal, Greater}
@@ -8,8 +7,7 @@ use Rattle.std.specs.Ordering.{is_eq, match_ordering, nat_cmp}
 use Rattle.std.specs.BTreeSet.{insert_key}
 use Rattle.std.specs.BTreeMap.{is_at}
 use Rattle.std.specs.Cmp.{tied_then}
-use Rattle.std.specs.Cmp.Lexicographic.{bytes_decides, slice_cmp}
-use Rattle.std.proofs.lemmas.Cmp.{same_from_slice_cmp}
+use Rattle.std.specs.Cmp.Lexicographic.{slice_cmp}
 use Rattle.fp_model.specs.declared.calls.Resource.{Resource}
 use Rattle.fp_model.specs.declared.calls.Resource.TheVariants.{Segment, Anchor}
 use Rattle.fp_model.specs.Texts.{same_text}
@@ -18,43 +16,26 @@ use Rattle.segment_keys.specs.Keys.{resource_of}
 use Rattle.segment_keys.specs.Keys.{is_among}
 use Rattle.segment_keys.specs.declared.keys.SegmentKey.{SegmentKey}
 use Rattle.segment_keys.specs.contracts.keys.SegmentKeyOrd.TheImpl.{cmp-value}
-
-same_number : (m n : ℕ) → is_eq (nat_cmp m n) ≡ (m == n)
-same_number m n = grind (arith, nat_tests)
-
-same_bytes : (a b : List ℕ) → is_eq (slice_cmp nat_cmp a b) ≡ same_text a b
-same_bytes a b = same_from_slice_cmp nat_cmp is_eq same_text refl (λ _ _. refl) (λ _ _. refl)
-    (λ x y xs ys o h. grind (arith, nat_tests)) a b _ refl
+use Rattle.plain_laws.proofs.Numbers.{number_flipped}
+use Rattle.model_laws.proofs.Texts.{text-flipped, text_test}
+use Rattle.plain_laws.proofs.Orderings.{number_test}
+use Rattle.model_laws.proofs.Resources.{same_resources}
 
 -- two keys are equal in order exactly where they are the same
 level_is_same : (a b : SegmentKey) → is_at (cmp-value.it a) b ≡ same_resource (resource_of a) (resource_of b)
 level_is_same a b =
     sym (tied_then (nat_cmp a.msdb b.msdb) (slice_cmp nat_cmp a.key.items b.key.items))
-    ∙ ap (λ first. first && is_eq (slice_cmp nat_cmp a.key.items b.key.items)) (same_number a.msdb b.msdb)
-    ∙ ap (λ second. (a.msdb == b.msdb) && second) (same_bytes a.key.items b.key.items)
-
-both : (p q : Bool) → (p ≡ true → q ≡ true) → (q ≡ true → p ≡ true) → p ≡ q
-both true q there back = sym (there refl)
-both false true there back = back refl
-both false false there back = refl
-
-pub text-flipped : (a b : List ℕ) → same_text a b ≡ same_text b a
-text-flipped a b =
-    both (same_text a b) (same_text b a)
-    (λ same. (bytes_decides b a).1 (sym ((bytes_decides a b).0 same)))
-    (λ same. (bytes_decides a b).1 (sym ((bytes_decides b a).0 same)))
-
-number-flipped : (m n : ℕ) → (m == n) ≡ (n == m)
-number-flipped m n = grind (arith, nat_tests)
+    ∙ ap (λ first. first && is_eq (slice_cmp nat_cmp a.key.items b.key.items)) (number_test a.msdb b.msdb)
+    ∙ ap (λ second. (a.msdb == b.msdb) && second) (text_test a.key.items b.key.items)
 
 -- the order of the two says nothing
 flipped : (a b : Resource) → same_resource a b ≡ same_resource b a
-flipped (Segment m k) (Segment n l) = ap (λ first. first && same_text k l) (number-flipped m n) ∙ ap
+flipped (Segment m k) (Segment n l) = ap (λ first. first && same_text k l) (number_flipped m n) ∙ ap
     (λ second. (n == m) && second) (text-flipped k l)
 flipped (Segment m k) (Anchor d a) = refl
 flipped (Anchor d a) (Segment m k) = refl
-flipped (Anchor d a) (Anchor e b) = ap (λ first. first && (a == b)) (number-flipped d e) ∙ ap
-    (λ second. (e == d) && second) (number-flipped a b)
+flipped (Anchor d a) (Anchor e b) = ap (λ first. first && (a == b)) (number_flipped d e) ∙ ap
+    (λ second. (e == d) && second) (number_flipped a b)
 
 -- a key stands in the set exactly where it is among its resources
 pub among_is_contained : (keys : List SegmentKey) (key : SegmentKey)
@@ -64,22 +45,6 @@ among_is_contained (x ∷ xs) key =
     ap (λ b. b || list_any (is_at (cmp-value.it key)) xs)
     (level_is_same key x ∙ flipped (resource_of key) (resource_of x))
     ∙ ap (λ b. same_resource (resource_of x) (resource_of key) || b) (among_is_contained xs key)
-
--- keys that are equal in order are the same resource
-same_resources : (a b : Resource) → same_resource a b ≡ true → a ≡ b
-same_resources (Segment m k) (Segment n l) same =
-    let parts : (m ≡ n) × (k ≡ l) = (parted (m == n) (same_text k l) same (equal m n) ((bytes_decides k l).0)) in
-    ap (λ number. Segment number k) parts.0 ∙ ap (λ key. Segment n key) parts.1
-  where
-    equal : (m n : ℕ) → (m == n) ≡ true → m ≡ n
-    equal m n e = grind (arith, nat_tests)
-
-    parted : {P Q : Type 0} → (p q : Bool) → (p && q) ≡ true → (p ≡ true → P) → (q ≡ true → Q) → P × Q
-    parted true q both there back = (there refl, back both)
-    parted false q both there back = absurd (cc)
-same_resources (Segment m k) (Anchor d a) same = absurd (cc)
-same_resources (Anchor d a) (Segment m k) same = absurd (cc)
-same_resources (Anchor d a) (Anchor e b) same = grind (arith, nat_tests)
 
 -- with a key put among others, a resource is among them exactly where it is that key or was among them
 pub among-insert : (keys : List SegmentKey) (key : SegmentKey) (r : Resource)

@@ -1,6 +1,5 @@
 -- Control with other ends.
-use Rattle.std.proofs.Common.{◌≡◌, ℕ, ◌+◌, ◌-◌, ◌≤◌, List, [], ◌∷◌, length, drop, slice_index, get_or, Result, Ok, Err, OnOk, sym, ap, ◌∙◌, arith}
-use Rattle.std.proofs.lemmas.List.{get_or-drop}
+use Rattle.std.proofs.Common.{◌≡◌, ℕ, ◌-◌, List, [], ◌∷◌, length, drop, slice_index, ap, ◌∙◌}
 use Rattle.ci_space.specs.Interval.{kind_of, IsInterval, Keeps}
 use Rattle.ci_space.specs.Head.{ends_of}
 use Rattle.ci_space.proofs.Heads.{ends-tiles}
@@ -8,13 +7,7 @@ use Rattle.ci_overflow.specs.Lists.{bytes_at}
 use Rattle.ci_overflow.specs.Rooms.{IsPut}
 use Rattle.ci_overflow.proofs.Joins.{tiles-interval}
 use Rattle.seq_dependents.specs.Control.{ChangesEnds, PutsEnds}
-
-keeps_dropped : (old new : List ℕ) → drop 64 new ≡ drop 64 old → (k : ℕ) → 64 ≤ k
-    → slice_index new k ≡ slice_index old k
-keeps_dropped old new e k l =
-    let j : 64 + (k - 64) ≡ k = omega arith in
-    ap (λ n. get_or new n 0) (sym j) ∙ sym (get_or-drop 64 new (k - 64) 0) ∙ ap (λ xs. get_or xs (k - 64) 0) e ∙
-    get_or-drop 64 old (k - 64) 0 ∙ ap (λ n. get_or old n 0) j
+use Rattle.plain_laws.proofs.Lists.{keeps_dropped}
 
 changes_ends : (old new ends : List ℕ) (begin end : ℕ) → ends ≡ ends_of old
     → ends_of new ≡ begin ∷ end ∷ slice_index ends 2 ∷ slice_index ends 3 ∷ []
@@ -42,7 +35,3 @@ puts_ends old new given control ends begin end g i c e f k l d p =
       others = p.others;
       same_number = p.same_number;
     }
-
-pub on_ok_map : {A E : Type 0} (r : Result A E) (P Q : Type 0) → (P → Q) → OnOk r P → OnOk r Q
-on_ok_map (Ok a) P Q f p = f p
-on_ok_map (Err e) P Q f p = tt

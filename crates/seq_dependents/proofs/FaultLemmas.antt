@@ -1,5 +1,5 @@
 -- Intervals at fault, as the calls see them.
-use Rattle.std.proofs.Common.{◌≡◌, ℕ, ◌<◌, ◌≤◌, List, Result, Err, Option, None, IsSome, is_some, false, true, ap, ◌∙◌, sym}
+use Rattle.std.proofs.Common.{◌≡◌, ℕ, ◌<◌, ◌≤◌, List, Result, Err, ◌∙◌, sym}
 use Rattle.ci_overflow.specs.Lists.{bytes_at}
 use Rattle.ci_overflow.specs.Places.{first_sequential, first_independent}
 use Rattle.seq_dependents.specs.declared.part.Part.{Part}
@@ -35,6 +35,3 @@ serial_missing {A} part area serial ci n bytes e b k f h =
 pub between : (area : List (List ℕ)) (begin end serial : ℕ) → begin ≡ begin_of area → end ≡ end_of area
     → begin ≤ serial → serial < end → IsKept area serial
 between area begin end serial b e l m = record { from_begin = rw (← b) l; before_end = rw (← e) m }
-
-pub none_some : {A : Type 0} (o : Option A) → o ≡ None → IsSome o → ⊥
-none_some o e h = let q : false ≡ true = ap is_some (sym e) ∙ h in absurd (cc)

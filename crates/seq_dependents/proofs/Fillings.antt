@@ -4,11 +4,11 @@ use Rattle.std.proofs.lemmas.Bool.{cases_lt}
 use Rattle.std.proofs.lemmas.Nat.{div_below, mod_below}
 use Rattle.ci_overflow.specs.Lists.{bytes_at}
 use Rattle.ci_overflow.specs.Places.{first_sequential, first_independent}
-use Rattle.ci_overflow.proofs.Finds.{same_or}
 use Rattle.seq_dependents.specs.declared.part.Part.{Part}
 use Rattle.seq_dependents.specs.Slots.{HoldsCapacity, Holds, IsSequential, slots_each, slot_number, interval_of, slot_of}
 use Rattle.seq_dependents.specs.Puts.{PutsSlot, Fills, linked_to}
 use Rattle.seq_dependents.proofs.Placing.{numbers_apart}
+use Rattle.plain_laws.proofs.Numbers.{same_or_other}
 
 pub interval_behind : (part : Part) (serial : ℕ) → first_sequential part.shape ≤ interval_of part serial
 unfolding interval_of
@@ -36,7 +36,7 @@ interval_before part serial h =
 pub puts_sequential : (part : Part) (old new : List (List ℕ)) (serial previous : ℕ) (segment : List ℕ)
     → PutsSlot part old new serial previous segment → (ci : ℕ) → IsSequential part old ci → IsSequential part new ci
 puts_sequential part old new serial previous segment p ci s =
-    elim (same_or ci (interval_of part serial)) as (λ _. IsSequential part new ci) [
+    elim (same_or_other ci (interval_of part serial)) as (λ _. IsSequential part new ci) [
       | inl e ↦ rw e p.in_place
       | inr n ↦
           let b : bytes_at new ci ≡ bytes_at old ci = p.elsewhere ci n in

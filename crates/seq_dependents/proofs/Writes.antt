@@ -8,11 +8,11 @@ use Rattle.ci_space.proofs.Contents.{written-below, written-above, length-writte
 use Rattle.ci_space.proofs.Tilings.{kind-keeps, head-keeps}
 use Rattle.ci_overflow.specs.Lists.{bytes_at}
 use Rattle.ci_overflow.specs.Rooms.{IsPut}
-use Rattle.ci_overflow.proofs.Finds.{same_or}
 use Rattle.seq_dependents.specs.declared.part.Part.{Part}
 use Rattle.seq_dependents.specs.Slots.{Holds, IsSequential, slot_number, slot_size, interval_of, place_of, slot_in, slot_of}
 use Rattle.seq_dependents.specs.Puts.{PutsSlot}
 use Rattle.seq_dependents.proofs.Placing.{slots_apart}
+use Rattle.plain_laws.proofs.Numbers.{same_or_other}
 
 -- a sequential interval whose head stays is one
 sequential-keeps : (old new : List ℕ) → IsInterval old → kind_of old ≡ 4 → length new ≡ length old
@@ -59,7 +59,7 @@ other_slot : (part : Part) (old new : List (List ℕ)) (serial ci at : ℕ) (giv
     → slot_of part new other ≡ slot_of part old other
 unfolding slot_in
 other_slot part old new serial ci at given slot other ec ea fits es eg here others n =
-    elim (same_or (interval_of part other) ci) as (λ _. slice_range (bytes_at new (interval_of part other))
+    elim (same_or_other (interval_of part other) ci) as (λ _. slice_range (bytes_at new (interval_of part other))
     (place_of part other) (place_of part other + slot_size part) ≡ slice_range (bytes_at old (interval_of part other))
     (place_of part other) (place_of part other + slot_size part)) [
       | inl s ↦

@@ -21,25 +21,11 @@ use Rattle.fp_model.specs.Commit.{ends_at, with_dedb, with_ends, takes, with_anc
 use Rattle.fp_model.specs.Product.{is_anchor_of_set}
 use Rattle.serial_order.specs.Laws.{RootsAre}
 use Rattle.serial_order.specs.ProductView.{seen_in}
-use Rattle.serial_order.proofs.Lists.{eqb_same, true_is_not_false, some_is, none_is_not_some}
+use Rattle.serial_order.proofs.Lists.{eqb_same, true_is_not_false}
+use Rattle.plain_laws.proofs.Places.{get_other, get_outside, get_set_same}
+use Rattle.std.proofs.lemmas.Option.{none-some, same_Some}
 
 -- ---- elements at a place
-
--- a write leaves the other places
-pub get_set_other : {X : Type 0} (xs : List X) (r s : ℕ) (a : X) → ¬ (s ≡ r)
-    → slice_get (slice_set xs r a) s ≡ slice_get xs s
-get_set_other [] r s a ne = refl
-get_set_other (x ∷ xs) zero zero a ne = absurd (ne refl)
-get_set_other (x ∷ xs) zero (suc s) a ne = refl
-get_set_other (x ∷ xs) (suc r) zero a ne = refl
-get_set_other (x ∷ xs) (suc r) (suc s) a ne = get_set_other xs r s a (λ e. ne (ap (λ (n : ℕ). suc n) e))
-
--- and puts its value at its own
-pub get_set_same : {X : Type 0} (xs : List X) (r : ℕ) (a x : X) → slice_get xs r ≡ Some x
-    → slice_get (slice_set xs r a) r ≡ Some a
-get_set_same [] r a x e = absurd (none_is_not_some x e)
-get_set_same (y ∷ ys) zero a x e = refl
-get_set_same (y ∷ ys) (suc r) a x e = get_set_same ys r a x e
 
 -- ---- roots
 
@@ -65,7 +51,7 @@ module _ (dedb anchor : ℕ) where
             (get_set_same db.dedbs number (change d) d is) in
             rw (here, there) (leaves d same)
         | inr other ↦ ap (λ (o : Option Dedb). option_map_or (λ (d : Dedb). unwrap_or (slice_get d.anchors anchor) []) o
-            []) (get_set_other db.dedbs number dedb (change d) other)
+            []) (get_other db.dedbs number dedb (change d) other)
       ]
 
   -- other ends
@@ -80,7 +66,7 @@ module _ (dedb anchor : ℕ) where
   roots_with_roots c db ne = roots_with_dedb c.dedb (λ d. record d { anchors = slice_set d.anchors c.anchor c.roots })
       db
       (λ d same. ap (λ (o : Option (List Root)). unwrap_or o [])
-      (get_set_other d.anchors c.anchor anchor c.roots
+      (get_other d.anchors c.anchor anchor c.roots
       (λ e. ne (ap (λ (n : ℕ). Anchor n c.anchor) (sym same) ∙ ap (λ (n : ℕ). Anchor dedb n) (sym e)))))
 
   -- all changed anchors
@@ -113,7 +99,7 @@ module _ (dedb anchor : ℕ) where
               ≡ unwrap_or (slice_get d.anchors anchor) []
           put d None other = refl
           put d (Some roots) other = ap (λ (o : Option (List Root)). unwrap_or o [])
-              (get_set_other d.anchors i.anchor anchor
+              (get_other d.anchors i.anchor anchor
               (change_key (root_key (types_of defs i.dedb)) i.key (with_newest item) roots) other)
 
       at : (o : Option Area) → roots_at (option_map_or (λ area. numbered_at defs i area db) o db) dedb anchor ≡ roots_at
@@ -132,33 +118,6 @@ module _ (dedb anchor : ℕ) where
       defs db i h.0
 
 -- ---- Purge
-
--- an element outside of those that are changed
-get_outside : {X : Type 0} (first n end : ℕ) (change : X → X) (xs : List X) (a : ℕ) → end ≡ first + n → (a < first)
-    ⊎ (end ≤ a)
-    → slice_get (take first xs ++ map change (take n (drop first xs)) ++ drop end xs) a ≡ slice_get xs a
-get_outside zero n end change xs a is (inl below) = absurd (omega (arith, below))
-get_outside {X} zero n end change xs a is (inr behind) = behind_those n end xs a (omega (arith, is)) behind
-  where
-    behind_those : (n end : ℕ) (xs : List X) (a : ℕ) → end ≡ n → end ≤ a
-        → slice_get (map change (take n xs) ++ drop end xs) a ≡ slice_get xs a
-    behind_those zero zero xs a is le = refl
-    behind_those zero (suc end) xs a is le = absurd (omega (arith, is))
-    behind_those (suc n) zero xs a is le = absurd (omega (arith, is))
-    behind_those (suc n) (suc end) [] a is le = refl
-    behind_those (suc n) (suc end) (x ∷ xs) zero is le = absurd (omega (arith, le))
-    behind_those (suc n) (suc end) (x ∷ xs) (suc a) is le =
-        behind_those n end xs a (omega (arith, is)) (omega (arith, le))
-get_outside (suc first) n zero change xs a is h = absurd (omega (arith, is))
-get_outside (suc first) zero (suc end) change [] a is h = refl
-get_outside (suc first) (suc n) (suc end) change [] a is h = refl
-get_outside (suc first) n (suc end) change (x ∷ xs) zero is h = refl
-get_outside (suc first) n (suc end) change (x ∷ xs) (suc a) is h =
-    get_outside first n end change xs a (omega (arith, is)) (less h)
-  where
-    less : (suc a < suc first) ⊎ (suc end ≤ suc a) → (a < first) ⊎ (end ≤ a)
-    less (inl below) = inl (omega (arith, below))
-    less (inr behind) = inr (omega (arith, behind))
 
 -- an anchor that an area doesn't have, of its database
 lies_outside : (area : Area) (anchor : ℕ) → has_anchor area area.dedb anchor ≡ false → (anchor < area.first_anchor)
@@ -205,11 +164,11 @@ purge_leaves defs set n db next e resource outside = by (area_of_set defs set) r
     by : (o : Option Area) → area_of_set defs set ≡ o
         → option_map_or (λ area. if nat_lt 0 area.def.capacity then Some (purged_area area n db) else None) o None ≡
         Some next → seen_in defs resource next ≡ seen_in defs resource db
-    by None is e = absurd (none_is_not_some next e)
+    by None is e = absurd (none-some next e)
     by (Some area) is e = either (nat_lt 0 area.def.capacity) e
       where
         either : (b : Bool) → (if b then Some (purged_area area n db) else None) ≡ Some next
             → seen_in defs resource next ≡ seen_in defs resource db
         either true e = subst (λ (q : Db). seen_in defs resource q ≡ seen_in defs resource db)
-            (some_is (purged_area area n db) next e) (in_area area resource is outside)
-        either false e = absurd (none_is_not_some next e)
+            (same_Some (purged_area area n db) next e) (in_area area resource is outside)
+        either false e = absurd (none-some next e)

@@ -1,7 +1,7 @@
 -- What a call leaves to rely on is held Exclusive.
 use Rattle.std.proofs.Common.{◌≡◌, ℕ, zero, suc, ◌+◌, ◌-◌, List, [], ◌∷◌, ◌++◌, map, length, Option, Some, None, refl, sym, ◌∙◌, ap, subst, Bool, true, false, not, ◌&&◌, if◌then◌else◌, arith, slice_get, slice_set}
-use Rattle.std.specs.Prelude.{codes, is_some, find, filter, unwrap_or}
-use Rattle.std.specs.List.{AllByRecursion, flat_map, list_all}
+use Rattle.std.specs.Prelude.{codes, is_some, filter, unwrap_or}
+use Rattle.std.specs.List.{AllByRecursion, flat_map}
 use Rattle.std.specs.Option.{option_map_or}
 use Rattle.fp_model.specs.declared.definitions.Defs.{Defs}
 use Rattle.fp_model.specs.declared.definitions.FieldDef.{FieldDef}
@@ -35,17 +35,12 @@ use Rattle.fp_model.specs.DedbCalls as dedb
 use Rattle.fp_model.specs.Calls.{OnMsdb, OnDedb, Nowhere, database_of, dedb_target, msdb_at, reply_on, need_on, reply_to, need_of}
 use Rattle.serial_order.specs.Laws.{IsExclusive, IsCovered}
 use Rattle.serial_order.specs.ProductView.{fields_of, is_whole, is_call, is_whole_call, is_own, held_claim, held_claims, deferred_claim, change_claim, insert_claim, view_of}
-use Rattle.serial_order.proofs.Lists.{some_is, none_is_not_some}
-use Rattle.serial_order.proofs.Locks.{both_left, both_right, same_text_is}
 use Rattle.serial_order.proofs.Replies.{key_held, unless_none, served_exclusive}
+use Rattle.plain_laws.proofs.Alls.{all_append, found_passes, list_all_push}
+use Rattle.std.proofs.lemmas.Option.{none-some, same_Some}
+use Rattle.model_laws.proofs.Texts.{same_text_is}
 
 -- ---- of each element
-
--- what is so of each of two lists is so of both together
-pub all_join : {X : Type 0} (P : X → Type 0) (xs ys : List X) → AllByRecursion P xs → AllByRecursion P ys
-    → AllByRecursion P (xs ++ ys)
-all_join P [] ys a b = b
-all_join P (x ∷ xs) ys a b = (a.0, all_join P xs ys a.1 b)
 
 -- and of the first of two
 pub all_front : {X : Type 0} (P : X → Type 0) (xs ys : List X) → AllByRecursion P (xs ++ ys) → AllByRecursion P xs
@@ -60,8 +55,8 @@ all_back P (x ∷ xs) ys a = all_back P xs ys a.1
 -- with one more at the end
 all_flat_push : {X Y : Type 0} (P : Y → Type 0) (f : X → List Y) (xs : List X) (x : X)
     → AllByRecursion P (flat_map f xs) → AllByRecursion P (f x) → AllByRecursion P (flat_map f (xs ++ x ∷ []))
-all_flat_push P f [] x a b = all_join P (f x) [] b tt
-all_flat_push P f (z ∷ zs) x a b = all_join P (f z) (flat_map f (zs ++ x ∷ [])) (all_front P (f z) (flat_map f zs) a)
+all_flat_push P f [] x a b = all_append P (f x) [] b tt
+all_flat_push P f (z ∷ zs) x a b = all_append P (f z) (flat_map f (zs ++ x ∷ [])) (all_front P (f z) (flat_map f zs) a)
     (all_flat_push P f zs x (all_back P (f z) (flat_map f zs) a) b)
 
 all_map_push : {X Y : Type 0} (P : Y → Type 0) (f : X → Y) (xs : List X) (x : X) → AllByRecursion P (map f xs) → P (f x)
@@ -92,23 +87,6 @@ all_put P f c (d ∷ others) new old = either (change_precedes c d) (change_prec
     either true behind put = (new, old)
     either false true put = (old.0, put)
     either false false put = (new, old.1)
-
--- a test that one more passes too
-list_all_push : {X : Type 0} (p : X → Bool) (xs : List X) (x : X) → list_all p xs ≡ true → p x ≡ true
-    → list_all p (xs ++ x ∷ []) ≡ true
-list_all_push p [] x a b = rw b refl
-list_all_push p (z ∷ zs) x a b = rw (both_left (p z) (list_all p zs) a)
-    (list_all_push p zs x (both_right (p z) (list_all p zs) a) b)
-
--- what a search finds passes its test
-pub found_passes : {X : Type 0} (p : X → Bool) (xs : List X) (x : X) → find p xs ≡ Some x → p x ≡ true
-found_passes p [] x e = absurd (none_is_not_some x e)
-found_passes p (z ∷ zs) x e = either (p z) refl e (λ f. found_passes p zs x f)
-  where
-    either : (b : Bool) → p z ≡ b → (if b then Some z else find p zs) ≡ Some x → (find p zs ≡ Some x → p x ≡ true)
-        → p x ≡ true
-    either true is e later = subst (λ q. p q ≡ true) (some_is z x e) is
-    either false is e later = later e
 
 -- ---- the parts of what is relied on
 
@@ -148,8 +126,8 @@ module _ (defs : Defs) (held : Resource → Option Mode) where
       let e : List Resource = map (insert_claim defs) own.inserts in
       record {
         is_own = c.is_own;
-        holds = all_join P (a ++ b ++ d) e
-            (all_join P (a ++ b) d (all_join P a b c.positions c.deferred) c.changes) c.inserts;
+        holds = all_append P (a ++ b ++ d) e
+            (all_append P (a ++ b) d (all_append P a b c.positions c.deferred) c.changes) c.inserts;
       }
 
   -- ---- positions
@@ -162,12 +140,12 @@ module _ (defs : Defs) (held : Resource → Option Mode) where
   claims_set [] n i p a b = a
   claims_set (q ∷ qs) n zero p a b =
       let here : n + 0 ≡ n = omega arith in
-      all_join (IsExclusive held) (held_claim defs n p) (held_claims defs (n + 1) qs)
+      all_append (IsExclusive held) (held_claim defs n p) (held_claims defs (n + 1) qs)
       (subst (λ (k : ℕ). AllByRecursion (IsExclusive held) (held_claim defs k p)) here b)
       (all_back (IsExclusive held) (held_claim defs n q) (held_claims defs (n + 1) qs) a)
   claims_set (q ∷ qs) n (suc i) p a b =
       let here : n + suc i ≡ n + 1 + i = omega arith in
-      all_join (IsExclusive held) (held_claim defs n q) (held_claims defs (n + 1) (slice_set qs i p))
+      all_append (IsExclusive held) (held_claim defs n q) (held_claims defs (n + 1) (slice_set qs i p))
       (all_front (IsExclusive held) (held_claim defs n q) (held_claims defs (n + 1) qs) a)
       (claims_set qs (n + 1) i p (all_back (IsExclusive held) (held_claim defs n q) (held_claims defs (n + 1) qs) a)
       (subst (λ (k : ℕ). AllByRecursion (IsExclusive held) (held_claim defs k p)) here b))
@@ -176,11 +154,11 @@ module _ (defs : Defs) (held : Resource → Option Mode) where
   claims_at : (ps : List MsdbPosition) (n i : ℕ) (p : MsdbPosition)
       → AllByRecursion (IsExclusive held) (held_claims defs n ps) → slice_get ps i ≡ Some p
       → AllByRecursion (IsExclusive held) (held_claim defs (n + i) p)
-  claims_at [] n i p a e = absurd (none_is_not_some p e)
+  claims_at [] n i p a e = absurd (none-some p e)
   claims_at (q ∷ qs) n zero p a e =
       let here : n ≡ n + 0 = omega arith in
       subst (λ (k : ℕ). AllByRecursion (IsExclusive held) (held_claim defs k p)) here
-      (subst (λ (x : MsdbPosition). AllByRecursion (IsExclusive held) (held_claim defs n x)) (some_is q p e)
+      (subst (λ (x : MsdbPosition). AllByRecursion (IsExclusive held) (held_claim defs n x)) (same_Some q p e)
       (all_front (IsExclusive held) (held_claim defs n q) (held_claims defs (n + 1) qs) a))
   claims_at (q ∷ qs) n (suc i) p a e =
       let here : n + 1 + i ≡ n + suc i = omega arith in
@@ -292,15 +270,15 @@ module _ (defs : Defs) (held : Resource → Option Mode) where
                 → AllByRecursion (IsExclusive held)
                 (if b then option_map_or (λ key. Segment (0 + number) key ∷ []) o [] else [])
                 → held (Segment number key) ≡ Some Exclusive
-            by false o e h = absurd (none_is_not_some key e)
-            by true None e h = absurd (none_is_not_some key e)
+            by false o e h = absurd (none-some key e)
+            by true None e h = absurd (none-some key e)
             by true (Some k) e h = subst (λ (n : ℕ). held (Segment n key) ≡ Some Exclusive) (omega arith)
-                (subst (λ (q : List ℕ). held (Segment (0 + number) q) ≡ Some Exclusive) (some_is k key e) h.0)
+                (subst (λ (q : List ℕ). held (Segment (0 + number) q) ≡ Some Exclusive) (same_Some k key e) h.0)
 
         at : (o : Option MsdbPosition) → slice_get own.msdbs number ≡ o
             → (if (unwrap_or o no_msdb_position).held then (unwrap_or o no_msdb_position).key else None) ≡ Some key
             → held (Segment number key) ≡ Some Exclusive
-        at None is e = absurd (none_is_not_some key e)
+        at None is e = absurd (none-some key e)
         at (Some p) is e = claimed p e (claims_at own.msdbs 0 number p c.positions is)
 
     -- a call to the segment that is held

@@ -27,7 +27,7 @@ use Rattle.fp_model.specs.Operands.{Env, at_top, text_of, key_text, fsas_given, 
 use Rattle.fp_model.specs.Asking.{Way, Goes, Leaves, Ends, Ask, Asks, Replies, Rolls, or_rolls, goes_on, in_order, loops_on, times, called, run, run_step, ended, ask, script_of}
 use Rattle.fp_model.specs.Product.{asked_by}
 use Rattle.serial_order.specs.ProductView.{is_whole, is_call}
-use Rattle.serial_order.proofs.Lists.{some_is, none_is_not_some}
+use Rattle.std.proofs.lemmas.Option.{none-some, same_Some}
 
 module _ (defs : Defs) where
   abbrev EndIsFair : Ask → Type 0
@@ -91,14 +91,14 @@ module _ (defs : Defs) where
   fitted_whole n text key e = either (nat_le (length text) n) e
     where
       either : (b : Bool) → (if b then Some (padded n text) else None) ≡ Some key → nat_le n (length key) ≡ true
-      either true e = subst (λ (k : List ℕ). nat_le n (length k) ≡ true) (some_is (padded n text) key e)
+      either true e = subst (λ (k : List ℕ). nat_le n (length k) ≡ true) (same_Some (padded n text) key e)
           (padded_whole n text)
-      either false e = absurd (none_is_not_some key e)
+      either false e = absurd (none-some key e)
 
   -- what is behind a value that there may be
   behind : {A B : Type 0} (o : Option A) (f : A → Option B) (y : B) → (o >>= f) ≡ Some y → (x : A)
       × ((o ≡ Some x) × (f x ≡ Some y))
-  behind None f y e = absurd (none_is_not_some y e)
+  behind None f y e = absurd (none-some y e)
   behind (Some x) f y e = (x, (refl, e))
 
   -- the key of a field call
@@ -123,14 +123,14 @@ module _ (defs : Defs) where
       (λ (t : List ℕ). layout_of defs db 0 >>= (λ (layout : Layout). fitted_key layout t)) bytes.0 bytes.1.0 in
       let whole : is_whole defs db bytes.0 ≡ true =
       layout_whole db (slice_get defs.msdbs db) refl text.0 bytes.0 text.1.1 in
-      subst (λ (q : Call). is_call defs q ≡ true) (some_is (call.Fld db bytes.0 (list_text list.0)) c list.1.1) whole
+      subst (λ (q : Call). is_call defs q ≡ true) (same_Some (call.Fld db bytes.0 (list_text list.0)) c list.1.1) whole
 
   -- ---- statements
 
   -- what a function makes of a value that there may be
   mapped : {A B : Type 0} (f : A → B) (o : Option A) (y : B) → option_map f o ≡ Some y → (x : A) × (f x ≡ y)
-  mapped f None y e = absurd (none_is_not_some y e)
-  mapped f (Some x) y e = (x, some_is (f x) y e)
+  mapped f None y e = absurd (none-some y e)
+  mapped f (Some x) y e = (x, same_Some (f x) y e)
 
   module _ (message : Message) where
     -- GU, GN, GNP and their holds
@@ -147,7 +147,7 @@ module _ (defs : Defs) where
         let layout = behind (layout_of defs db (new_type defs message ssas)) _ c found.1.1 in
         let segment = behind (empty_segment layout.0.fields) _ c layout.1.1 in
         let bytes = behind (filled defs message env layout.0.fields fields segment.0) _ c segment.1.1 in
-        subst (λ (q : Call). is_call defs q ≡ true) (some_is (call.Isrt db found.0 bytes.0) c bytes.1.1) refl
+        subst (λ (q : Call). is_call defs q ≡ true) (same_Some (call.Isrt db found.0 bytes.0) c bytes.1.1) refl
 
     -- REPL
     repl_fair : (env : Env) (db : ℕ) (fields : List FieldText) (c : Call)
@@ -156,7 +156,7 @@ module _ (defs : Defs) where
         let shown = behind (shown_on db env) _ c e in
         let layout = behind (layout_of defs db shown.0.type_number) _ c shown.1.1 in
         let bytes = behind (filled defs message env layout.0.fields fields shown.0.bytes) _ c layout.1.1 in
-        subst (λ (q : Call). is_call defs q ≡ true) (some_is (call.Repl db bytes.0) c bytes.1.1) refl
+        subst (λ (q : Call). is_call defs q ≡ true) (same_Some (call.Repl db bytes.0) c bytes.1.1) refl
 
     -- a call that there may be
     asked-fair : (o : Option Call) (env : Env) → ((c : Call) → o ≡ Some c → is_call defs c ≡ true)

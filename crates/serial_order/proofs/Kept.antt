@@ -23,16 +23,18 @@ use Rattle.fp_model.specs.Frames.{KeepsRegions, KeepsHistory}
 use Rattle.fp_model.proofs.HistoryLemmas.{join, states_counted}
 use Rattle.serial_order.specs.Laws.{View, IsExclusive, IsCovered, ShareNoTerminal, is_format, Laws}
 use Rattle.serial_order.specs.Kept.{IsRequest, AreRequests, StandOnce, GoesOn, Kept}
-use Rattle.serial_order.proofs.Lists.{none_is_not_some, contains_first, contains_later, contains_in_set, get_contains, put_cases, state_stays, longer, never_falls_later, never_falls_with}
+use Rattle.serial_order.proofs.Lists.{contains_in_set, put_cases, state_stays, longer, never_falls_later, never_falls_with}
 use Rattle.serial_order.proofs.Locks.{apart_with, apart_without, still_held, still_exclusive, without_other, others_not_exclusive}
 use Rattle.serial_order.proofs.Waits.{ended_waits, gained_waits, asked_waits}
 use Rattle.serial_order.proofs.Plays.{call_comes_to}
 use Rattle.serial_order.proofs.Terminals.{put_once, begins_once, ends_once, queued_apart, active_apart}
+use Rattle.plain_laws.proofs.Alls.{contains_first, contains_later, get_contains}
+use Rattle.std.proofs.lemmas.Option.{none-some}
 
 -- ---- regions
 
 -- an active region has one transaction
-is_transaction : (t u : Transaction) → Active t ≡ Active u → t ≡ u
+pub is_transaction : (t u : Transaction) → Active t ≡ Active u → t ≡ u
 is_transaction t u e = cc
 
 -- and is not idle
@@ -43,7 +45,7 @@ not_idle t e = cc
 region_cases : (m m2 : Machine) (place s : ℕ) (r x : Region) → m2.regions ≡ slice_set m.regions place r
     → region_at m2 s ≡ Some x
     → ((s ≡ suc place) × (x ≡ r)) ⊎ (¬ (s ≡ suc place) × (region_at m s ≡ Some x))
-region_cases m m2 place zero r x put stands = absurd (none_is_not_some x stands)
+region_cases m m2 place zero r x put stands = absurd (none-some x stands)
 region_cases m m2 place (suc q) r x put stands =
     elim (put_cases m.regions place q r x (ap (λ (rs : List Region). slice_get rs q) (sym put) ∙ stands)) [
       | inl w ↦ inl (ap (λ (k : ℕ). suc k) w.0, w.1)

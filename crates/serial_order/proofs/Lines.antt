@@ -20,9 +20,11 @@ use Rattle.fp_model.specs.Lasts.{Last, format_behind, format_at, uses_number, la
 use Rattle.fp_model.specs.Asking.{script_of}
 use Rattle.fp_model.specs.Product.{by_script, by_last, by_number, by_message, request_of}
 use Rattle.serial_order.specs.Laws.{is_format, IsRefusal}
-use Rattle.serial_order.proofs.Lists.{some_is, none_is_not_some}
-use Rattle.serial_order.proofs.Locks.{same_text_is}
-use Rattle.serial_order.proofs.Settling.{find_put, find_kept, other_text}
+use Rattle.serial_order.proofs.Settling.{find_put, other_text}
+use Rattle.plain_laws.proofs.Alls.{find_kept}
+use Rattle.model_laws.proofs.Entries.{format_push}
+use Rattle.std.proofs.lemmas.Option.{none-some, same_Some}
+use Rattle.model_laws.proofs.Texts.{same_text_is}
 
 -- ---- results, and what they hold
 
@@ -54,7 +56,7 @@ fair_line m message e = either (nat_lt 1000 (length m.text)) (list_all is_printa
     either false false e = absurd (error_is_not_ok NotAscii message e)
 
 -- it has the line and the terminal that it was read from
-by_line : (line : List ℕ) (number : Option ℕ) (lterm tran : Option Name) (text : List ℕ) (message : Message)
+pub by_line : (line : List ℕ) (number : Option ℕ) (lterm tran : Option Name) (text : List ℕ) (message : Message)
     → message_by line number lterm tran text ≡ Ok message
     → (message.line ≡ line) × (lterm ≡ Some message.lterm)
 by_line line number None tran text message e = absurd (error_is_not_ok _ message e)
@@ -63,7 +65,7 @@ by_line line number (Some lterm) (Some tran) text message e =
     let same = fair_line (record { lterm = lterm; tran = tran; text = text; line = line; number = number }) message e in
     (sym (ap (λ (m : Message). m.line) same), ap (λ (m : Message). Some m.lterm) same)
 
-of_line : (format : ℕ) (line : List ℕ) (message : Message) → message_of format line ≡ Ok message
+pub of_line : (format : ℕ) (line : List ℕ) (message : Message) → message_of format line ≡ Ok message
     → (message.line ≡ line) × (terminal_of line ≡ Some message.lterm)
 of_line format line message e =
     let asked : List ℕ = behind_number (number_in_line format line) line in
@@ -171,11 +173,6 @@ format_kept format (outcome.Repeat line) e = refl
 format_kept format (outcome.Purge set n) e = refl
 format_kept format outcome.Format e = absurd cc
 
-format_push : (format : ℕ) (es : List Entry) (e : Entry)
-    → format_at format (es ++ e ∷ []) ≡ format_behind (format_at format es) e.outcome
-format_push format [] e = refl
-format_push format (x ∷ es) e = format_push (format_behind format x.outcome) es e
-
 -- the entry's number takes the place of that of its terminal
 pub lasts_push : (format : ℕ) (es : List Entry) (e : Entry) (lasts : List Last)
     → lasts_behind format (es ++ e ∷ []) lasts
@@ -194,18 +191,18 @@ last_terminal format e last is = either (uses_number e.outcome) is
     from_message : (text : List ℕ) (m : Message) (number : Option ℕ) → terminal_of e.line ≡ Some m.lterm
         → option_map (λ (n : ℕ). let l : Last = record { lterm = m.lterm; number = n; line = text } in l) number
         ≡ Some last → terminal_of e.line ≡ Some last.lterm
-    from_message text m None at is = absurd (none_is_not_some last is)
-    from_message text m (Some n) at is = at ∙ ap (λ (l : Last). Some l.lterm) (some_is _ last is)
+    from_message text m None at is = absurd (none-some last is)
+    from_message text m (Some n) at is = at ∙ ap (λ (l : Last). Some l.lterm) (same_Some _ last is)
 
     from_line : (text : List ℕ) (r : Result Message MessageFault) → message_of format e.line ≡ r
         → last_in text r ≡ Some last → terminal_of e.line ≡ Some last.lterm
-    from_line text (Err fault) of is = absurd (none_is_not_some last is)
+    from_line text (Err fault) of is = absurd (none-some last is)
     from_line text (Ok m) of is = from_message text m m.number (of_line format e.line m of).1 is
 
     either : (b : Bool) → (if b then last_in (unwrap_or (line_text e) []) (message_of format e.line) else None)
         ≡ Some last → terminal_of e.line ≡ Some last.lterm
     either true is = from_line (unwrap_or (line_text e) []) (message_of format e.line) refl is
-    either false is = absurd (none_is_not_some last is)
+    either false is = absurd (none-some last is)
 
 -- a number leaves those of other terminals
 pub last_leaves : (name : Name) (last : Last) (lasts : List Last) → ¬ (last.lterm.0 ≡ name.0)

@@ -1,15 +1,16 @@
 -- What lists contain after edits, states by place, and notes that never fall.
 use Rattle.std.proofs.Common.{◌≡◌, ℕ, zero, suc, ◌<◌, ◌≤◌, List, [], ◌∷◌, ◌++◌, map, length, Some, None, ◌⊎◌, inl, inr, refl, sym, ◌∙◌, ap, subst, Bool, true, false, nat_eq, ◌||◌, arith, set, slice_get, slice_set, replicate}
 use Rattle.std.specs.List.{Contains, filter, flat_map, list_any}
-use Rattle.std.proofs.lemmas.Bool.{cases_eq}
+use Rattle.std.proofs.lemmas.Bool.{cases_eq, cases_Bool}
 use Rattle.std.proofs.lemmas.Grind.{common_steps}
 use Rattle.std.proofs.lemmas.List.{get_or-set_same, get_or-set_other, get_or_append_left}
 use Rattle.std.proofs.lemmas.List.Elements.{All-contains, All-contains_itself, All-weaker, All-set, All-filter, All-map, filter_passes, Contains-append_left, Contains-append_right, Contains-append_cases, Contains-push, Contains-push_cases}
-use Rattle.std.proofs.lemmas.Option.{slice_get_within, get_or_from_slice_get, slice_get-get_or, unwrap_or-slice_get}
+use Rattle.std.proofs.lemmas.Option.{slice_get_within, get_or_from_slice_get, slice_get-get_or, unwrap_or-slice_get, none-some, same_Some}
 use Rattle.std.proofs.Math.Seq.{get_or-append_seam}
 use Rattle.fp_model.specs.declared.database.Db.{Db}
 use Rattle.fp_model.specs.Serial.{state_at}
 use Rattle.fp_model.specs.SerialHistory.{NeverFalls}
+use Rattle.plain_laws.proofs.Alls.{contains_cases, contains_first, contains_later, contains_nothing}
 
 -- ---- numbers and tests
 
@@ -23,42 +24,10 @@ eqb_other a b ne = grind (arith, common_steps)
 pub eqb_is : (a b : ℕ) → nat_eq a b ≡ true → a ≡ b
 eqb_is a b e = grind (arith, common_steps)
 
--- a test is one of the two, with the equation
-pub tested : (b : Bool) → (b ≡ true) ⊎ (b ≡ false)
-tested true = inl refl
-tested false = inr refl
-
 pub true_is_not_false : true ≡ false → ⊥
 true_is_not_false e = cc
 
--- values that there may be
-pub some_is : {A : Type 0} (x y : A) → Some x ≡ Some y → x ≡ y
-some_is x y e = cc
-
-pub none_is_not_some : {A : Type 0} (x : A) → None ≡ Some x → ⊥
-none_is_not_some x e = cc
-
 -- ---- what a list contains
-
--- the empty list
-pub contains_nothing : {X : Type 0} (x : X) → Contains [] x → ⊥
-contains_nothing x c = absurd (omega (arith, c.1))
-
--- the first element
-pub contains_first : {X : Type 0} (x : X) (xs : List X) → Contains (x ∷ xs) x
-contains_first x xs = Contains-append_left (x ∷ []) xs x (Contains-push [] x)
-
--- an element behind the first
-pub contains_later : {X : Type 0} (y : X) (xs : List X) (x : X) → Contains xs x → Contains (y ∷ xs) x
-contains_later y xs x c = Contains-append_right (y ∷ []) xs x c
-
--- an element is the first or behind it
-pub contains_cases : {X : Type 0} (y : X) (xs : List X) (x : X) → Contains (y ∷ xs) x → (y ≡ x) ⊎ Contains xs x
-contains_cases y xs x c = elim (Contains-append_cases (y ∷ []) xs x c) [
-  | inl here ↦ elim (Contains-push_cases [] y x here)
-      [ inl none ↦ absurd (contains_nothing x none) | inr same ↦ inl same ]
-  | inr there ↦ inr there
-]
 
 -- an element that a filter left
 pub contains_in_filter : {X : Type 0} (p : X → Bool) (xs : List X) (x : X) → Contains (filter p xs) x → Contains xs x
@@ -75,7 +44,7 @@ filter_contains p [] x c is = c
 filter_contains p (y ∷ ys) x c is = elim (contains_cases y ys x c) [
   | inl same ↦ let now : p y ≡ true = ap p same ∙ is in
       rw now (subst (λ z. Contains (y ∷ filter p ys) z) same (contains_first y (filter p ys)))
-  | inr there ↦ elim (tested (p y)) [
+  | inr there ↦ elim (cases_Bool (p y)) [
     | inl is_so ↦ rw is_so (contains_later y (filter p ys) x (filter_contains p ys x there is))
     | inr is_not ↦ rw is_not (filter_contains p ys x there is)
   ]
@@ -89,14 +58,6 @@ contains_in_map {X} {Y} f xs y c =
     All-contains P (map f xs) y (All-map P f xs (All-weaker (λ x. Contains xs x) (λ x. P (f x))
     (λ x here. (x, (here, refl))) xs (All-contains_itself xs))) c
 
--- the image of an element
-pub map_contains : {X Y : Type 0} (f : X → Y) (xs : List X) (x : X) → Contains xs x → Contains (map f xs) (f x)
-map_contains f [] x c = absurd (contains_nothing x c)
-map_contains f (z ∷ zs) x c = elim (contains_cases z zs x c) [
-  | inl same ↦ subst (λ q. Contains (f z ∷ map f zs) (f q)) same (contains_first (f z) (map f zs))
-  | inr there ↦ contains_later (f z) (map f zs) (f x) (map_contains f zs x there)
-]
-
 -- an element of joined lists
 pub contains_in_flat_map : {X Y : Type 0} (f : X → List Y) (xs : List X) (y : Y) → Contains (flat_map f xs) y → (x : X)
     × (Contains xs x × Contains (f x) y)
@@ -105,15 +66,6 @@ contains_in_flat_map f (z ∷ zs) y c = elim (Contains-append_cases (f z) (flat_
   | inl here ↦ (z, (contains_first z zs, here))
   | inr there ↦ let rest = contains_in_flat_map f zs y there in
       (rest.0, (contains_later z zs rest.0 rest.1.0, rest.1.1))
-]
-
--- an element of one of them
-pub flat_map_contains : {X Y : Type 0} (f : X → List Y) (xs : List X) (x : X) (y : Y) → Contains xs x → Contains (f x) y
-    → Contains (flat_map f xs) y
-flat_map_contains f [] x y c d = absurd (contains_nothing x c)
-flat_map_contains f (z ∷ zs) x y c d = elim (contains_cases z zs x c) [
-  | inl same ↦ Contains-append_left (f z) (flat_map f zs) y (subst (λ q. Contains (f q) y) (sym same) d)
-  | inr there ↦ Contains-append_right (f z) (flat_map f zs) y (flat_map_contains f zs x y there d)
 ]
 
 -- what stands in a list after a write
@@ -167,16 +119,10 @@ put_cases xs r s a x e = elim (cases_eq s r) [
   | inr ne ↦ inr (ne, set_there xs r s a x ne e)
 ]
 
--- what stands in a list is contained in it
-pub get_contains : {A : Type 0} (xs : List A) (i : ℕ) (x : A) → slice_get xs i ≡ Some x → Contains xs x
-get_contains [] i x e = absurd (none_is_not_some x e)
-get_contains (y ∷ ys) zero x e = subst (λ z. Contains (y ∷ ys) z) (some_is y x e) (contains_first y ys)
-get_contains (y ∷ ys) (suc i) x e = contains_later y ys x (get_contains ys i x e)
-
 -- a list of one value has no other
 pub mapped_to : {A B : Type 0} (xs : List B) (s : ℕ) (a x : A) → slice_get (map (λ b. a) xs) s ≡ Some x → x ≡ a
-mapped_to [] s a x e = absurd (none_is_not_some x e)
-mapped_to (b ∷ bs) zero a x e = sym (some_is a x e)
+mapped_to [] s a x e = absurd (none-some x e)
+mapped_to (b ∷ bs) zero a x e = sym (same_Some a x e)
 mapped_to (b ∷ bs) (suc s) a x e = mapped_to bs s a x e
 
 -- a list of copies has no other

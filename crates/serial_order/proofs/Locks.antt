@@ -2,49 +2,18 @@
 use Rattle.std.proofs.Common.{◌≡◌, ℕ, List, [], ◌∷◌, Option, Some, None, inl, inr, refl, sym, ◌∙◌, ap, subst, Bool, true, false, not, nat_eq, ◌&&◌, ◌||◌, if◌then◌else◌}
 use Rattle.std.specs.List.{Contains}
 use Rattle.std.proofs.lemmas.Bool.{cases_eq}
-use Rattle.std.proofs.lemmas.Slice.Eq.{bytes_eq-Decides}
 use Rattle.fp_model.specs.declared.calls.Mode.{Mode}
 use Rattle.fp_model.specs.declared.calls.Mode.TheVariants.{Share, Exclusive}
 use Rattle.fp_model.specs.declared.calls.Resource.{Resource}
-use Rattle.fp_model.specs.declared.calls.Resource.TheVariants.{Segment, Anchor}
-use Rattle.fp_model.specs.Texts.{same_text}
 use Rattle.fp_model.specs.Waiting.{Lock, same_resource, is_exclusive, conflicts, held_as, without_region, is_blocked}
 use Rattle.serial_order.specs.Kept.{AreApart}
-use Rattle.serial_order.proofs.Lists.{eqb_same, eqb_other, eqb_is, true_is_not_false, some_is, none_is_not_some, contains_first, contains_later, contains_cases, contains_in_filter, none_passes}
+use Rattle.serial_order.proofs.Lists.{eqb_same, eqb_other, eqb_is, true_is_not_false, contains_in_filter, none_passes}
+use Rattle.plain_laws.proofs.Truths.{first_of_both, second_of_both}
+use Rattle.plain_laws.proofs.Alls.{contains_cases, contains_first, contains_later}
+use Rattle.std.proofs.lemmas.Option.{none-some, same_Some}
+use Rattle.model_laws.proofs.Resources.{resource_is_same, same_resources as same_resource_is}
 
 -- ---- tests
-
--- both tests hold
-pub both_left : (a b : Bool) → (a && b) ≡ true → a ≡ true
-both_left true b e = refl
-both_left false b e = e
-
-pub both_right : (a b : Bool) → (a && b) ≡ true → b ≡ true
-both_right true b e = e
-both_right false b e = absurd (true_is_not_false (sym e))
-
--- texts and resources as tests
-pub same_text_is : (a b : List ℕ) → same_text a b ≡ true → a ≡ b
-same_text_is a b e = (bytes_eq-Decides a b).0 e
-
-pub text_is_same : (a : List ℕ) → same_text a a ≡ true
-text_is_same a = (bytes_eq-Decides a a).1 refl
-
-pub same_resource_is : (a b : Resource) → same_resource a b ≡ true → a ≡ b
-same_resource_is (Segment m k) (Segment n l) e =
-    let one = eqb_is m n (both_left (nat_eq m n) (same_text k l) e) in
-    let other = same_text_is k l (both_right (nat_eq m n) (same_text k l) e) in
-    ap (λ q. Segment q k) one ∙ ap (λ q. Segment n q) other
-same_resource_is (Segment m k) (Anchor d a) e = absurd (true_is_not_false (sym e))
-same_resource_is (Anchor d a) (Segment m k) e = absurd (true_is_not_false (sym e))
-same_resource_is (Anchor d a) (Anchor f b) e =
-    let one = eqb_is d f (both_left (nat_eq d f) (nat_eq a b) e) in
-    let other = eqb_is a b (both_right (nat_eq d f) (nat_eq a b) e) in
-    ap (λ q. Anchor q a) one ∙ ap (λ q. Anchor f q) other
-
-pub resource_is_same : (a : Resource) → same_resource a a ≡ true
-resource_is_same (Segment m k) = rw (eqb_same m) (text_is_same k)
-resource_is_same (Anchor d a) = rw (eqb_same d) (eqb_same a)
 
 pub same_resources : (a b : Resource) → a ≡ b → same_resource a b ≡ true
 same_resources a b e = subst (λ q. same_resource a q ≡ true) e (resource_is_same a)
@@ -55,7 +24,7 @@ same_resources a b e = subst (λ q. same_resource a q ≡ true) e (resource_is_s
 pub held_by : (locks : List Lock) (region : ℕ) (resource : Resource) (mode : Mode)
     → held_as locks region resource ≡ Some mode
     → (lock : Lock) × (Contains locks lock × (lock.region ≡ region) × (lock.resource ≡ resource) × (lock.mode ≡ mode))
-held_by [] region resource mode e = absurd (none_is_not_some mode e)
+held_by [] region resource mode e = absurd (none-some mode e)
 held_by (lock ∷ locks) region resource mode e = first_or
     (nat_eq lock.region region && same_resource lock.resource resource) refl (λ f. held_by locks region resource mode f)
     e
@@ -69,9 +38,9 @@ held_by (lock ∷ locks) region resource mode e = first_or
       lock,
       (
         contains_first lock locks,
-        eqb_is lock.region region (both_left _ _ is),
-        same_resource_is lock.resource resource (both_right _ _ is),
-        some_is lock.mode mode e,
+        eqb_is lock.region region (first_of_both _ _ is),
+        same_resource_is lock.resource resource (second_of_both _ _ is),
+        same_Some lock.mode mode e,
       ),
     )
     first_or false is later e = let rest = later e in
@@ -115,7 +84,7 @@ pub still_held : (l : Lock) (locks : List Lock) (s : ℕ) (resource : Resource) 
 still_held l locks s resource held = either (nat_eq l.region s && same_resource l.resource resource)
   where
     either : (b : Bool) → ¬ ((if b then Some l.mode else held_as locks s resource) ≡ None)
-    either true e = none_is_not_some l.mode (sym e)
+    either true e = none-some l.mode (sym e)
     either false e = held e
 
 -- what was held Exclusive is, beside a new lock on what wasn't
@@ -127,8 +96,8 @@ still_exclusive l locks free s resource held = either (nat_eq l.region s && same
     either : (b : Bool) → (nat_eq l.region s && same_resource l.resource resource) ≡ b
         → (if b then Some l.mode else held_as locks s resource) ≡ Some Exclusive
     either true is = absurd (free (
-        let one = eqb_is l.region s (both_left _ _ is) in
-        let other = same_resource_is l.resource resource (both_right _ _ is) in
+        let one = eqb_is l.region s (first_of_both _ _ is) in
+        let other = same_resource_is l.resource resource (second_of_both _ _ is) in
         subst (λ q. held_as locks q l.resource ≡ Some Exclusive) (sym one)
         (subst (λ q. held_as locks s q ≡ Some Exclusive) (sym other) held)
         ))

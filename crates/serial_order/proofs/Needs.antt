@@ -26,24 +26,25 @@ use Rattle.fp_model.specs.MsdbCalls as msdb
 use Rattle.fp_model.specs.DedbCalls as dedb
 use Rattle.fp_model.specs.Calls.{OnMsdb, OnDedb, Nowhere, database_of, dedb_target, need_on, need_of}
 use Rattle.fp_model.proofs.ProgramLemmas.{calls_below_cost}
-use Rattle.serial_order.proofs.Lists.{true_is_not_false, some_is, none_is_not_some}
-use Rattle.serial_order.proofs.Covers.{found_passes}
+use Rattle.serial_order.proofs.Lists.{true_is_not_false}
 use Rattle.serial_order.proofs.Replies.{exclusive_serves, unless_some}
+use Rattle.plain_laws.proofs.Alls.{found_passes}
+use Rattle.std.proofs.lemmas.Option.{none-some, same_Some}
 
 -- ---- locks
 
 -- the first anchor without its lock
 first_is_unlocked : (is_locked : ℕ → Bool) (look : ℕ → Option Occurrence) (anchors : List ℕ) (anchor : ℕ)
     → dedb.first_unlocked is_locked look anchors ≡ Some anchor → is_locked anchor ≡ false
-first_is_unlocked is_locked look [] anchor e = absurd (none_is_not_some anchor e)
+first_is_unlocked is_locked look [] anchor e = absurd (none-some anchor e)
 first_is_unlocked is_locked look (a ∷ rest) anchor e =
     at (is_locked a) refl (is_some (look a)) e (λ f. first_is_unlocked is_locked look rest anchor f)
   where
     at : (b : Bool) → is_locked a ≡ b → (found : Bool)
         → (if not b then Some a else if found then None else dedb.first_unlocked is_locked look rest) ≡ Some anchor
         → (dedb.first_unlocked is_locked look rest ≡ Some anchor → is_locked anchor ≡ false) → is_locked anchor ≡ false
-    at false is found e later = subst (λ (q : ℕ). is_locked q ≡ false) (some_is a anchor e) is
-    at true is true e later = absurd (none_is_not_some anchor e)
+    at false is found e later = subst (λ (q : ℕ). is_locked q ≡ false) (same_Some a anchor e) is
+    at true is true e later = absurd (none-some anchor e)
     at true is false e later = later e
 
 -- what isn't served isn't Exclusive
@@ -54,18 +55,18 @@ module _ (held : Resource → Option Mode) (needed : Needed) where
   -- a lock, unless it is held, behind what there may be
   maybe_needed : (o : Option Needed) → option_map_or (unless_held held) o None ≡ Some needed
       → ¬ (held needed.resource ≡ Some Exclusive)
-  maybe_needed None e = absurd (none_is_not_some needed e)
+  maybe_needed None e = absurd (none-some needed e)
   maybe_needed (Some n) e = unless_some held n needed e
 
   -- a lock behind a test
   if_needed : (b : Bool) (o : Option Needed) → (if b then o else None) ≡ Some needed
       → (o ≡ Some needed → ¬ (held needed.resource ≡ Some Exclusive)) → ¬ (held needed.resource ≡ Some Exclusive)
   if_needed true o e h = h e
-  if_needed false o e h = absurd (none_is_not_some needed e)
+  if_needed false o e h = absurd (none-some needed e)
 
   unless_needed : (b : Bool) (o : Option Needed) → (if b then None else o) ≡ Some needed
       → (o ≡ Some needed → ¬ (held needed.resource ≡ Some Exclusive)) → ¬ (held needed.resource ≡ Some Exclusive)
-  unless_needed true o e h = absurd (none_is_not_some needed e)
+  unless_needed true o e h = absurd (none-some needed e)
   unless_needed false o e h = h e
 
   -- calls to a data entry database
@@ -82,36 +83,36 @@ module _ (held : Resource → Option Mode) (needed : Needed) where
           (dedb.anchors_searched def number (dedb.position_of def number own) g (dedb.root_named def number ssas)) ≡ o
           → option_map (dedb.anchor_lock def number (dedb.lock_of def number hold)) o ≡ Some needed
           → ¬ (held needed.resource ≡ Some Exclusive)
-      from None is e = absurd (none_is_not_some needed e)
+      from None is e = absurd (none-some needed e)
       from (Some a) is e =
           subst (λ (q : Needed). ¬ (held q.resource ≡ Some Exclusive))
-          (some_is (dedb.anchor_lock def number (dedb.lock_of def number hold) a) needed e)
+          (same_Some (dedb.anchor_lock def number (dedb.lock_of def number hold) a) needed e)
           (not_served (held (Anchor number a)) (dedb.lock_of def number hold)
           (first_is_unlocked (λ (anchor : ℕ). serves (held (Anchor number anchor)) (dedb.lock_of def number hold))
           (dedb.look_at def number db own g ssas)
           (dedb.anchors_searched def number (dedb.position_of def number own) g (dedb.root_named def number ssas)) a
           is))
-  dedb_wants def number db own (call.Fld n key fsas) e = absurd (none_is_not_some needed e)
+  dedb_wants def number db own (call.Fld n key fsas) e = absurd (none-some needed e)
   dedb_wants def number db own (call.Isrt n ssas bytes) e =
       if_needed (dedb.are_insert_arguments def number ssas) _ e (λ f. unless_some held _ needed f)
   dedb_wants def number db own (call.Repl n bytes) e = held_wants (dedb.held_place def number own) e
     where
       held_wants : (o : Option Place) → dedb.held_need def number held o ≡ Some needed
           → ¬ (held needed.resource ≡ Some Exclusive)
-      held_wants None e = absurd (none_is_not_some needed e)
+      held_wants None e = absurd (none-some needed e)
       held_wants (Some place) e = unless_some held _ needed e
   dedb_wants def number db own (call.Dlet n) e = held_wants (dedb.held_place def number own) e
     where
       held_wants : (o : Option Place) → dedb.held_need def number held o ≡ Some needed
           → ¬ (held needed.resource ≡ Some Exclusive)
-      held_wants None e = absurd (none_is_not_some needed e)
+      held_wants None e = absurd (none-some needed e)
       held_wants (Some place) e = unless_some held _ needed e
 
   -- if there is one
   dedb_target_wants : (number : ℕ) (o : Option DedbDef) (db : Db) (own : Workspace) (c : Call)
       → need_on (option_map_or (λ def. OnDedb def number) o Nowhere) db own held c ≡ Some needed
       → ¬ (held needed.resource ≡ Some Exclusive)
-  dedb_target_wants number None db own c e = absurd (none_is_not_some needed e)
+  dedb_target_wants number None db own c e = absurd (none-some needed e)
   dedb_target_wants number (Some def) db own c e = dedb_wants def number db own c e
 
   -- main storage databases are looked for first

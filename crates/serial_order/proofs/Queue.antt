@@ -27,11 +27,12 @@ use Rattle.fp_model.specs.WellFormed.{IsMsdbDef}
 use Rattle.fp_model.specs.Workspace.{Workspace}
 use Rattle.serial_order.specs.Laws.{SegmentIs, RootsAre, IsExclusive, IsCovered}
 use Rattle.serial_order.specs.ProductView.{seen_in, fields_of, is_whole_call, deferred_claim, change_claim, insert_claim, view_of}
-use Rattle.serial_order.proofs.Lists.{some_is, none_is_not_some}
-use Rattle.serial_order.proofs.Locks.{both_left, both_right}
 use Rattle.serial_order.proofs.Covers.{Covers, parts}
-use Rattle.serial_order.proofs.Changes.{get_set_other, get_set_same, roots_with_anchors, roots_with_inserts}
+use Rattle.serial_order.proofs.Changes.{roots_with_anchors, roots_with_inserts}
 use Rattle.serial_order.proofs.Settling.{with_new, with_old, all_served, segment_put, segment_dropped, field_changes_leave}
+use Rattle.plain_laws.proofs.Truths.{first_of_both, second_of_both}
+use Rattle.plain_laws.proofs.Places.{get_other, get_set_same}
+use Rattle.std.proofs.lemmas.Option.{none-some, same_Some}
 
 -- results and what they hold
 is_stays : (x y : List Msdb) → Becomes x ≡ Becomes y → x ≡ y
@@ -58,8 +59,8 @@ full_is_no_commit set begin end n x e = cc
 -- an element at a place is one of all
 all_at : {X : Type 0} (P : X → Type 0) (xs : List X) (i : ℕ) (x : X) → AllByRecursion P xs → slice_get xs i ≡ Some x
     → P x
-all_at P [] i x h e = absurd (none_is_not_some x e)
-all_at P (y ∷ ys) zero x h e = subst P (some_is y x e) h.0
+all_at P [] i x h e = absurd (none-some x e)
+all_at P (y ∷ ys) zero x h e = subst P (same_Some y x e) h.0
 all_at P (y ∷ ys) (suc i) x h e = all_at P ys i x h.1 e
 
 module _ (defs : Defs) (each : AllByRecursion IsMsdbDef defs.msdbs) where
@@ -103,7 +104,7 @@ module _ (defs : Defs) (each : AllByRecursion IsMsdbDef defs.msdbs) where
               rw (here, there, of) (leaves def msdb a same)
           | inr other ↦ ap (λ (o : Option Msdb). option_map_or
               (λ def. segment_of def (unwrap_or o (record { segments = [] })) k) (slice_get defs.msdbs m) None)
-              (get_set_other msdbs number m (change def msdb) other)
+              (get_other msdbs number m (change def msdb) other)
         ]
 
     -- the fields of a definition
@@ -170,7 +171,7 @@ module _ (defs : Defs) (each : AllByRecursion IsMsdbDef defs.msdbs) where
         (sym (is_stands msdbs final e))
     queue_leaves place msdbs (d ∷ calls) final fair ne e = by (applied defs.msdbs d msdbs) refl e
         (λ changed g. queue_leaves (place + 1) changed calls final
-        (both_right (is_whole_call defs d) (list_all (is_whole_call defs) calls) fair) ne.1 g)
+        (second_of_both (is_whole_call defs d) (list_all (is_whole_call defs) calls) fair) ne.1 g)
       where
         by : (a : Applied) → applied defs.msdbs d msdbs ≡ a
             → elim a as (λ x. Settled) [
@@ -183,7 +184,7 @@ module _ (defs : Defs) (each : AllByRecursion IsMsdbDef defs.msdbs) where
             → segment_at final m k ≡ segment_at changed m k)
             → segment_at final m k ≡ segment_at msdbs m k
         by (Becomes changed) is e later = later changed e ∙ call_leaves d msdbs changed
-            (both_left (is_whole_call defs d) (list_all (is_whole_call defs) calls) fair) ne.0 is
+            (first_of_both (is_whole_call defs d) (list_all (is_whole_call defs) calls) fair) ne.0 is
         by (Fails fsa found) is e later = absurd (fails_is_not_stands place fsa found final e)
 
   -- ---- what the queue touches is held

@@ -29,14 +29,15 @@ use Rattle.fp_model.specs.DedbCalls as dedb
 use Rattle.fp_model.specs.Calls.{OnMsdb, OnDedb, Nowhere, database_of, dedb_target, msdb_at, reply_on, looks_on, need_on, reply_to, looks_unheld, need_of}
 use Rattle.serial_order.specs.Laws.{SegmentIs, RootsAre, IsSame}
 use Rattle.serial_order.specs.ProductView.{view_of}
-use Rattle.serial_order.proofs.Lists.{true_is_not_false, some_is, none_is_not_some}
+use Rattle.serial_order.proofs.Lists.{true_is_not_false}
+use Rattle.std.proofs.lemmas.Option.{none-some, same_Some}
 
 -- ---- what a lock serves
 
 -- what serves is held
 pub served_is_held : (o : Option Mode) (mode : Mode) → serves o mode ≡ true → ¬ (o ≡ None)
 served_is_held None mode e none = true_is_not_false (sym e)
-served_is_held (Some m) mode e none = none_is_not_some m (sym none)
+served_is_held (Some m) mode e none = none-some m (sym none)
 
 -- and Exclusive serves all
 pub exclusive_serves : (o : Option Mode) (mode : Mode) → o ≡ Some Exclusive → serves o mode ≡ true
@@ -55,7 +56,7 @@ unless_none held needed e = go (serves (held needed.resource) needed.mode) e
   where
     go : (b : Bool) → (if b then None else Some needed) ≡ None → b ≡ true
     go true e = refl
-    go false e = absurd (none_is_not_some needed (sym e))
+    go false e = absurd (none-some needed (sym e))
 
 -- what is needed isn't held Exclusive
 pub unless_some : (held : Resource → Option Mode) (needed more : Needed) → unless_held held needed ≡ Some more
@@ -63,10 +64,10 @@ pub unless_some : (held : Resource → Option Mode) (needed more : Needed) → u
 unless_some held needed more e is = go (serves (held needed.resource) needed.mode) refl e
   where
     go : (b : Bool) → serves (held needed.resource) needed.mode ≡ b → (if b then None else Some needed) ≡ Some more → ⊥
-    go true s e = none_is_not_some more e
+    go true s e = none-some more e
     go false s e =
         let here : held needed.resource ≡ Some Exclusive =
-        subst (λ (q : Needed). held q.resource ≡ Some Exclusive) (sym (some_is needed more e)) is in
+        subst (λ (q : Needed). held q.resource ≡ Some Exclusive) (sym (same_Some needed more e)) is in
         true_is_not_false (sym (exclusive_serves (held needed.resource) needed.mode here) ∙ s)
 
 -- ---- main storage databases
@@ -80,7 +81,7 @@ module _ (def : MsdbDef) (number : ℕ) (held : Resource → Option Mode) (own :
 
   -- a key held Exclusive is held
   held_key : (key : List ℕ) → held (Segment number key) ≡ Some Exclusive → ¬ (held (Segment number key) ≡ None)
-  held_key key e none = none_is_not_some Exclusive (sym none ∙ e)
+  held_key key e none = none-some Exclusive (sym none ∙ e)
 
   module _ (now now2 shown shown2 : Msdb) (same : (key : List ℕ) → ¬ (held (Segment number key) ≡ None)
       → segment_of def now2 key ≡ segment_of def now key) where
@@ -151,7 +152,7 @@ found_alike is_locked look look2 (a ∷ rest) none same =
         → (dedb.first_unlocked is_locked look rest ≡ None → dedb.first_found look2 rest ≡ dedb.first_found look rest)
         → option_map_or (λ s. Some (a, s)) (look2 a) (dedb.first_found look2 rest) ≡ option_map_or (λ s. Some (a, s))
         (look a) (dedb.first_found look rest)
-    at false is o found none later = absurd (none_is_not_some a (sym none))
+    at false is o found none later = absurd (none-some a (sym none))
     at true is (Some s) found none later = rw (same a is) (rw found refl)
     at true is None found none later = rw (same a is) (rw found (later none))
 
@@ -192,7 +193,7 @@ module _ (def : DedbDef) (number : ℕ) (held : Resource → Option Mode) (own :
       unlocked : (o : Option ℕ) → option_map (dedb.anchor_lock def number (dedb.lock_of def number hold)) o ≡ None
           → o ≡ None
       unlocked None e = refl
-      unlocked (Some a) e = absurd (none_is_not_some _ (sym e))
+      unlocked (Some a) e = absurd (none-some _ (sym e))
 
   -- behind two tests of which either ends the call
   get_alike_if : (fair lacks : Bool) (g : Get) (hold : Bool) (ssas : List Ssa) (r q : Replied)

@@ -24,58 +24,42 @@ use Rattle.fp_model.specs.Settle.{with_field_changes, comes_before, with_resourc
 use Rattle.fp_model.specs.WellFormed.{StandFrom}
 use Rattle.fp_model.specs.Answers.{serves}
 use Rattle.serial_order.specs.Laws.{IsExclusive}
-use Rattle.serial_order.proofs.Lists.{eqb_same, true_is_not_false, some_is, none_is_not_some}
-use Rattle.serial_order.proofs.Locks.{same_text_is}
+use Rattle.serial_order.proofs.Lists.{eqb_same, true_is_not_false}
 use Rattle.serial_order.proofs.Replies.{served_exclusive}
-use Rattle.serial_order.proofs.Covers.{found_passes}
+use Rattle.plain_laws.proofs.Alls.{find_kept, found_passes}
+use Rattle.plain_laws.proofs.Orderings.{neither_less}
+use Rattle.std.proofs.lemmas.Option.{none-some, same_Some}
+use Rattle.plain_laws.proofs.Truths.{first_false, second_false, not_second}
+use Rattle.model_laws.proofs.Texts.{same_text_is}
 
 -- ---- what the sync point has locked
 
--- two that come in neither order are equal
-neither : (o p : Ordering) → o ≡ ordering_reverse p → is_lt o ≡ false → is_lt p ≡ false → o ≡ Equal
-neither o Less is a b = absurd (true_is_not_false b)
-neither o Equal is a b = is
-neither o Greater is a b = absurd (true_is_not_false (sym (ap is_lt is) ∙ a))
-
 -- of two keys, neither of which comes first
 same_key : (k l : List ℕ) → is_below k l ≡ false → is_below l k ≡ false → k ≡ l
-same_key k l a b = exact_bytes k l (neither (slice_cmp nat_cmp k l) (slice_cmp nat_cmp l k)
+same_key k l a b = exact_bytes k l (neither_less (slice_cmp nat_cmp k l) (slice_cmp nat_cmp l k)
     (nat_list_cmp_total.antisymm k l) a b)
 
 -- of two numbers, neither of which is less
 same_numbers : (m n : ℕ) → nat_lt m n ≡ false → nat_lt n m ≡ false → m ≡ n
 same_numbers m n a b = grind (arith, common_steps)
 
--- tests that fail
-or_left : (a b : Bool) → (a || b) ≡ false → a ≡ false
-or_left true b e = e
-or_left false b e = refl
-
-or_right : (a b : Bool) → (a || b) ≡ false → b ≡ false
-or_right true b e = absurd (true_is_not_false e)
-or_right false b e = e
-
-and_right : (a b : Bool) → a ≡ true → (a && b) ≡ false → b ≡ false
-and_right true b p e = e
-and_right false b p e = absurd (true_is_not_false (sym p))
-
 -- of two resources, neither of which comes first
 same_place : (r s : Resource) → comes_before r s ≡ false → comes_before s r ≡ false → r ≡ s
 same_place (Segment m k) (Segment n l) a b =
-    let number : m ≡ n = same_numbers m n (or_left (nat_lt m n) _ a) (or_left (nat_lt n m) _ b) in
+    let number : m ≡ n = same_numbers m n (first_false (nat_lt m n) _ a) (first_false (nat_lt n m) _ b) in
     let here : nat_eq m n ≡ true = subst (λ (q : ℕ). nat_eq m q ≡ true) number (eqb_same m) in
     let there : nat_eq n m ≡ true = subst (λ (q : ℕ). nat_eq q m ≡ true) number (eqb_same m) in
-    let key : k ≡ l = same_key k l (and_right (nat_eq m n) (is_below k l) here (or_right (nat_lt m n) _ a))
-    (and_right (nat_eq n m) (is_below l k) there (or_right (nat_lt n m) _ b)) in
+    let key : k ≡ l = same_key k l (not_second (nat_eq m n) (is_below k l) here (second_false (nat_lt m n) _ a))
+    (not_second (nat_eq n m) (is_below l k) there (second_false (nat_lt n m) _ b)) in
     ap (λ (q : ℕ). Segment q k) number ∙ ap (λ (q : List ℕ). Segment n q) key
 same_place (Segment m k) (Anchor d a) e f = absurd (true_is_not_false e)
 same_place (Anchor d a) (Segment m k) e f = absurd (true_is_not_false f)
 same_place (Anchor d x) (Anchor e y) a b =
-    let number : d ≡ e = same_numbers d e (or_left (nat_lt d e) _ a) (or_left (nat_lt e d) _ b) in
+    let number : d ≡ e = same_numbers d e (first_false (nat_lt d e) _ a) (first_false (nat_lt e d) _ b) in
     let here : nat_eq d e ≡ true = subst (λ (q : ℕ). nat_eq d q ≡ true) number (eqb_same d) in
     let there : nat_eq e d ≡ true = subst (λ (q : ℕ). nat_eq q d ≡ true) number (eqb_same d) in
-    let anchor : x ≡ y = same_numbers x y (and_right (nat_eq d e) (nat_lt x y) here (or_right (nat_lt d e) _ a))
-    (and_right (nat_eq e d) (nat_lt y x) there (or_right (nat_lt e d) _ b)) in
+    let anchor : x ≡ y = same_numbers x y (not_second (nat_eq d e) (nat_lt x y) here (second_false (nat_lt d e) _ a))
+    (not_second (nat_eq e d) (nat_lt y x) there (second_false (nat_lt e d) _ b)) in
     ap (λ (q : ℕ). Anchor q x) number ∙ ap (λ (q : ℕ). Anchor e q) anchor
 
 module _ (P : Resource → Type 0) where
@@ -114,7 +98,7 @@ all_served held (r ∷ rs) e = by (serves (held r) Exclusive) refl e (λ f. all_
         → (find (λ (r : Resource). not (serves (held r) Exclusive)) rs ≡ None → AllByRecursion (IsExclusive held) rs)
         → AllByRecursion (IsExclusive held) (r ∷ rs)
     by true is e later = (served_exclusive (held r) is, later e)
-    by false is e later = absurd (none_is_not_some r (sym e))
+    by false is e later = absurd (none-some r (sym e))
 
 -- ---- segments by key
 
@@ -128,21 +112,6 @@ find_put p key x (y ∷ ys) no_x = by (is_below (key x) (key y)) (find_put p key
         → find p (if b then x ∷ y ∷ ys else y ∷ put_by_key key x ys) ≡ find p (y ∷ ys)
     by true later = rw no_x refl
     by false later = ap (λ o. if p y then Some y else o) later
-
--- and without elements that it doesn't find
-pub find_kept : {X : Type 0} (p q : X → Bool) (xs : List X) → ((x : X) → p x ≡ true → q x ≡ true)
-    → find p (filter q xs) ≡ find p xs
-find_kept p q [] h = refl
-find_kept p q (x ∷ xs) h = by (q x) refl (find_kept p q xs h)
-  where
-    by : (b : Bool) → q x ≡ b → find p (filter q xs) ≡ find p xs
-        → find p (if b then x ∷ filter q xs else filter q xs) ≡ find p (x ∷ xs)
-    by true is later = ap (λ o. if p x then Some x else o) later
-    by false is later = either (p x) refl
-      where
-        either : (b : Bool) → p x ≡ b → find p (filter q xs) ≡ (if b then Some x else find p xs)
-        either true here = absurd (true_is_not_false (sym (h x here) ∙ is))
-        either false here = later
 
 -- texts that differ
 pub other_text : (a k : List ℕ) → ¬ (a ≡ k) → same_text a k ≡ false
@@ -176,24 +145,24 @@ segment_dropped def gone k msdb ne =
 -- fields stand behind where they begin
 stand_behind : (at : ℕ) (fields : List FieldDef) (end : ℕ) (p : FieldDef → Bool) (field : FieldDef)
     → StandFrom at fields end → find p fields ≡ Some field → at ≤ field.at
-stand_behind at [] end p field s e = absurd (none_is_not_some field e)
+stand_behind at [] end p field s e = absurd (none-some field e)
 stand_behind at (f ∷ fs) end p field s e = by (p f) e (λ g. stand_behind (at + f.length) fs end p field s.2 g)
   where
     by : (b : Bool) → (if b then Some f else find p fs) ≡ Some field
         → (find p fs ≡ Some field → at + f.length ≤ field.at) → at ≤ field.at
-    by true e later = let same : f.at ≡ field.at = ap (λ (q : FieldDef). q.at) (some_is f field e) in
+    by true e later = let same : f.at ≡ field.at = ap (λ (q : FieldDef). q.at) (same_Some f field e) in
         omega (arith, same, s.0)
     by false e later = omega (arith, later e)
 
 -- a field that isn't the key stands behind it
 behind_key : (fields : List FieldDef) (end : ℕ) (p : FieldDef → Bool) (field : FieldDef) → StandFrom 0 fields end
     → find p fields ≡ Some field → is_key field ≡ false → key_length fields ≤ field.at
-behind_key [] end p field s e no_key = absurd (none_is_not_some field e)
+behind_key [] end p field s e no_key = absurd (none-some field e)
 behind_key (f ∷ fs) end p field s e no_key = by (p f) e
   where
     by : (b : Bool) → (if b then Some f else find p fs) ≡ Some field → f.length ≤ field.at
     by true e =
-        let at : field.at ≡ 0 = ap (λ (q : FieldDef). q.at) (sym (some_is f field e)) ∙ s.0 in
+        let at : field.at ≡ 0 = ap (λ (q : FieldDef). q.at) (sym (same_Some f field e)) ∙ s.0 in
         absurd (true_is_not_false (sym (subst (λ (n : ℕ). nat_eq n 0 ≡ true) (sym at) refl) ∙ no_key))
     by false e = let later = stand_behind (0 + f.length) fs end p field s.2 e in omega (arith, later)
 
@@ -212,9 +181,9 @@ module _ (def : MsdbDef) (end : ℕ) (stands : StandFrom 0 def.fields end) where
   good_letter : (a c : Bool) (o : Option FieldDef) (f : FieldDef → ℕ) (field : FieldDef)
       → nat_eq (if a || c then option_map_or f o 72 else 65) 32 ≡ true → c ≡ true → o ≡ Some field
       → nat_eq (f field) 32 ≡ true
-  good_letter a c None f field e p q = absurd (none_is_not_some field q)
-  good_letter true c (Some x) f field e p q = subst (λ (y : FieldDef). nat_eq (f y) 32 ≡ true) (some_is x field q) e
-  good_letter false true (Some x) f field e p q = subst (λ (y : FieldDef). nat_eq (f y) 32 ≡ true) (some_is x field q) e
+  good_letter a c None f field e p q = absurd (none-some field q)
+  good_letter true c (Some x) f field e p q = subst (λ (y : FieldDef). nat_eq (f y) 32 ≡ true) (same_Some x field q) e
+  good_letter false true (Some x) f field e p q = subst (λ (y : FieldDef). nat_eq (f y) 32 ≡ true) (same_Some x field q) e
   good_letter false false (Some x) f field e p q = absurd (true_is_not_false (sym p))
 
   -- a blank letter is not C
@@ -229,7 +198,7 @@ module _ (def : MsdbDef) (end : ℕ) (stands : StandFrom 0 def.fields end) where
   no_key_changed fsa segment field good change of =
       let letter = good_letter (is_verify fsa.op) (is_change fsa.op) (field_of def.fields fsa.field)
       (λ (f : FieldDef). letter_on f fsa.op fsa.operand (field_bytes f segment)) field good change of in
-      and_right (is_change fsa.op) (is_key field) change
+      not_second (is_change fsa.op) (is_key field) change
       (second_letter (is_sum fsa.op && is_text field.kind) (is_change fsa.op && is_key field) _ letter)
 
   -- a good change leaves the key

@@ -18,23 +18,18 @@ use Rattle.fp_model.specs.Rules.{Rules}
 use Rattle.fp_model.specs.Machine.{Transaction, Region, Idle, Active, Machine, at_rest, region_at, with_region, with_entry_of, terminal_in, same_name, is_among, queued_at, told, next_group, with_group, sealed_once, sealed_times}
 use Rattle.serial_order.specs.Laws.{ShareNoTerminal}
 use Rattle.serial_order.specs.Kept.{line_count, region_count, queued_count, active_count, unsealed_count, count, StandOnce}
-use Rattle.serial_order.proofs.Lists.{tested, true_is_not_false, contains_nothing, contains_first, contains_later, contains_cases, contains_in_flat_map, filter_contains, get_contains, none_passes}
-use Rattle.serial_order.proofs.Locks.{same_text_is, text_is_same}
+use Rattle.serial_order.proofs.Lists.{true_is_not_false, contains_in_flat_map, filter_contains, none_passes}
+use Rattle.plain_laws.proofs.Alls.{contains_cases, contains_first, contains_later, contains_nothing, get_contains}
+use Rattle.std.proofs.lemmas.Bool.{cases_Bool, or_cases}
+use Rattle.model_laws.proofs.Texts.{same_names, text_is_same}
 
 -- ---- names among others
-
-either_holds : (a b : Bool) → (a || b) ≡ true → (a ≡ true) ⊎ (b ≡ true)
-either_holds true b e = inl refl
-either_holds false b e = inr e
-
-pub name_is : (a b : Name) → same_name a b ≡ true → a ≡ b
-name_is a b e = ap (λ (text : List ℕ). let name : Name = record { 0 = text } in name) (same_text_is a.0 b.0 e)
 
 -- a name that is among others is contained in them
 pub contained : (names : List Name) (name : Name) → is_among names name ≡ true → Contains names name
 contained [] name e = absurd (true_is_not_false (sym e))
-contained (n ∷ ns) name e = elim (either_holds (same_name name n) (is_among ns name) e) [
-  | inl same ↦ subst (λ (q : Name). Contains (q ∷ ns) name) (name_is name n same) (contains_first name ns)
+contained (n ∷ ns) name e = elim (or_cases (same_name name n) (is_among ns name) e) [
+  | inl same ↦ subst (λ (q : Name). Contains (q ∷ ns) name) (same_names name n same) (contains_first name ns)
   | inr later ↦ contains_later n ns name (contained ns name later)
 ]
 
@@ -198,8 +193,8 @@ module _ (rules : Rules) where
       → m2.sealed ≤ place_of m2.history
       → StandOnce rules m → StandOnce rules m2
   joins_once m m2 line free busy more sealed k = record {
-    once = λ name. at_most_one name (tested (is_among names name));
-    is_busy = λ name some. rw busy (waits name some (tested (is_among names name)));
+    once = λ name. at_most_one name (cases_Bool (is_among names name));
+    is_busy = λ name some. rw busy (waits name some (cases_Bool (is_among names name)));
     sealed = sealed;
   }
     where

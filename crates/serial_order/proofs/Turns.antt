@@ -30,12 +30,14 @@ use Rattle.fp_model.specs.Frames.{KeepsLines, KeepsQueues, KeepsRegions, KeepsHi
 use Rattle.fp_model.proofs.FrameLemmas.{turn_keeps as turn_leaves}
 use Rattle.serial_order.specs.Laws.{View, Laws, IsRefusal, is_format}
 use Rattle.serial_order.specs.Kept.{IsRequest, StandOnce, line_count, count, Kept, IsAtRest}
-use Rattle.serial_order.proofs.Lists.{some_is, none_is_not_some, contains_nothing, contains_in_set, get_contains, mapped_to, replicated, none_passes, from_below}
+use Rattle.serial_order.proofs.Lists.{contains_in_set, mapped_to, replicated, none_passes, from_below}
 use Rattle.serial_order.proofs.Locks.{held_by, held_somehow}
 use Rattle.serial_order.proofs.Waits.{no_locks}
 use Rattle.serial_order.proofs.Plays.{ends_alone}
 use Rattle.serial_order.proofs.Terminals.{joins_once, queued_more, unsealed_more, sealed_below, writes_once, log_once, times_once, rests_once}
 use Rattle.serial_order.proofs.Kept.{not_idle, alike, begins_kept, tried_kept, answers_kept, gains_kept, waits_kept, ended_kept, written_kept}
+use Rattle.plain_laws.proofs.Alls.{contains_nothing, get_contains}
+use Rattle.std.proofs.lemmas.Option.{none-some, same_Some}
 
 module _ (rules : Rules) (view : View) (laws : Laws rules view) where
   -- what a turn leads to
@@ -55,7 +57,7 @@ module _ (rules : Rules) (view : View) (laws : Laws rules view) where
       → option_map (λ (resource : Resource). let n : Needed = record { resource = resource; mode = Exclusive } in n) o
       ≡ None → o ≡ None
   lacks_none None e = refl
-  lacks_none (Some r) e = absurd (none_is_not_some _ (sym e))
+  lacks_none (Some r) e = absurd (none-some _ (sym e))
 
   -- what is wanted isn't held Exclusive
   wants_new : (m : Machine) (region : ℕ) (t : Transaction) (ask : Ask) (needed : Needed)
@@ -67,11 +69,11 @@ module _ (rules : Rules) (view : View) (laws : Laws rules view) where
       from : (o : Option Resource) → rules.lack t.point.own (held_as m.locks region) ≡ o
           → option_map (λ (resource : Resource). let n : Needed = record { resource = resource; mode = Exclusive } in
           n) o ≡ Some needed → ¬ (held_as m.locks region needed.resource ≡ Some Exclusive)
-      from None is e = absurd (none_is_not_some needed e)
+      from None is e = absurd (none-some needed e)
       from (Some r) is e =
           subst (λ (q : Resource). ¬ (held_as m.locks region q ≡ Some Exclusive))
-          (ap (λ (n : Needed). n.resource) (some_is _ needed e)) (laws.lacks t.point.own (held_as m.locks region) r is)
-  wants_new m region t (Rolls code) needed w = absurd (none_is_not_some needed w)
+          (ap (λ (n : Needed). n.resource) (same_Some _ needed e)) (laws.lacks t.point.own (held_as m.locks region) r is)
+  wants_new m region t (Rolls code) needed w = absurd (none-some needed w)
 
   module _ (m : Machine) (place : ℕ) (t : Transaction) (k : Kept rules view m)
       (active : slice_get m.regions place ≡ Some (Active t)) where
@@ -184,17 +186,17 @@ module _ (rules : Rules) (view : View) (laws : Laws rules view) where
         → wanted rules m (suc place) t ask ≡ None
         → ending_of rules m.history.now t ask ≡ Some ending
         → Kept rules view (ended_with (suc place) (entry_of t ending t.notes items) ending.next m)
-    finishes (Asks call) ending items is none e = absurd (none_is_not_some ending e)
+    finishes (Asks call) ending items is none e = absurd (none-some ending e)
     finishes (Replies reply) ending items is none e =
         let s : Settlement = rules.settle m.history.now t.point.own in
         subst (λ (x : Ending). Kept rules view (ended_with (suc place) (entry_of t x t.notes items) x.next m))
-        (some_is (settled_as m.history.now reply s) ending e)
+        (same_Some (settled_as m.history.now reply s) ending e)
         (settled reply items s refl (lacks_none (rules.lack t.point.own (held_as m.locks (suc place))) none)
         (λ n. ends_by n (Replies reply) is))
     finishes (Rolls code) ending items is none e =
         let rolled : Ending = refused_as (outcome.Roll code) m.history.now in
         subst (λ (x : Ending). Kept rules view (ended_with (suc place) (entry_of t x t.notes items) x.next m))
-        (some_is rolled ending e)
+        (same_Some rolled ending e)
         (ended_kept rules view laws m (entry_of t rolled t.notes items) m.history.now k refl place t active refl
         (record { form = refl; leads = ends rolled items (λ n. ends_by n (Rolls code) is) }) (λ resource h. refl))
 
@@ -449,7 +451,7 @@ at_rest_rests rules lines h history = record {
 }
   where
     not_active : (region : ℕ) (t : Transaction) → ¬ (region_at (at_rest rules lines h) region ≡ Some (Active t))
-    not_active zero t e = none_is_not_some _ e
+    not_active zero t e = none-some _ e
     not_active (suc place) t e = not_idle t (mapped_to rules.regions place Idle (Active t) e)
 
 -- it has the invariant

@@ -4,7 +4,8 @@ use Rattle.std.specs.List.{Contains, filter}
 use Rattle.std.proofs.lemmas.Bool.{cases_eq}
 use Rattle.fp_model.specs.Waiting.{Lock, conflicts, without_region, waits, WaitsAlong, IsCycle, with_request}
 use Rattle.serial_order.specs.Kept.{HaveNoCycle}
-use Rattle.serial_order.proofs.Lists.{eqb_same, true_is_not_false, contains_nothing, contains_cases, contains_in_filter, filter_contains, contains_in_map, map_contains, contains_in_flat_map, flat_map_contains}
+use Rattle.serial_order.proofs.Lists.{eqb_same, true_is_not_false, contains_in_filter, filter_contains, contains_in_map, contains_in_flat_map}
+use Rattle.plain_laws.proofs.Alls.{contains_cases, contains_nothing, flat_map_contains, map_contains}
 
 -- a standing request of the first region, and a lock of the second that is in its way
 record Blocks (requests locks : List Lock) (a b : ℕ) : Type 0 where
@@ -80,7 +81,7 @@ no_cycle requests locks none (a ∷ cs) w = none a cs (along requests locks a cs
 -- ---- locks and requests that are gone
 
 -- a request that isn't of a region
-others_only : (r : ℕ) (locks : List Lock) (l : Lock) → Contains (without_region r locks) l → Contains locks l
+pub others_only : (r : ℕ) (locks : List Lock) (l : Lock) → Contains (without_region r locks) l → Contains locks l
     × ¬ (l.region ≡ r)
 others_only r locks l c =
     let kept = contains_in_filter (λ (lock : Lock). not (nat_eq lock.region r)) locks l c in

@@ -11,11 +11,11 @@ use Rattle.fp_model.specs.History.{History, beginning, with_entry}
 use Rattle.fp_model.specs.Rules.{Rules}
 use Rattle.fp_model.specs.SerialHistory.{Comes, IsSerialHistory, LeadsOn}
 use Rattle.fp_model.proofs.HistoryLemmas.{front, join, one_end}
-use Rattle.fp_restart.proofs.Fits.{entries-more}
 use Rattle.log_groups.proofs.LogImages.{groups_more}
 use Rattle.site_audit.specs.inside.Judged.{AreHeld, AreJudged, AreRead, ComesTo, GoesOnTo, IsFirstBehind, IsOneRead}
 use Rattle.site_audit.specs.Legal.{IsFirstIllegal}
 use Rattle.site_audit.specs.declared.auditing.Place.{Place}
+use Rattle.model_laws.proofs.Entries.{entries_push}
 
 module _ (rules : Rules) where
   -- ---- one entry more
@@ -145,7 +145,7 @@ module _ (rules : Rules) where
       → AreRead rules format stands bytes first next
   are_read_more format before stands bytes first place next so_far one =
       let all : entries_of (so_far.groups ++ one.entries ∷ []) ≡ entries_of so_far.groups ++ one.entries =
-      entries-more so_far.groups one.entries in
+      entries_push so_far.groups one.entries in
       record {
         groups = so_far.groups ++ one.entries ∷ [];
         holds = groups_more bytes first so_far.groups place.at one.entries next.at so_far.holds one.group;
@@ -161,9 +161,3 @@ module _ (rules : Rules) where
             (judged_more format before stands (entries_of so_far.groups) one.entries place.entries place.illegal
             next.illegal so_far.count so_far.judged one.judged);
       }
-
--- two facts of an answer that is Ok
-pub both_ok : {X Y : Type 0} (r : Result X Y) (P Q R : X → Type 0) → ((x : X) → P x → Q x → R x) → IfOk r P → IfOk r Q
-    → IfOk r R
-both_ok (Ok x) P Q R joined p q = joined x p q
-both_ok (Err e) P Q R joined p q = tt

@@ -1,4 +1,5 @@
 //! The audit of a log's groups.
+ghost use Rattle.fp_lists.specs.Continued.{IsContinued};
 ghost use Rattle.fp_audit.specs.Setup.{AreSpread, CanAudit};
 ghost use Rattle.fp_audit.specs.Standing.{IsAt, rules_in};
 ghost use Rattle.fp_exits.specs.Kinds.{kinds_of};
@@ -15,7 +16,7 @@ ghost use Rattle.site_audit.specs.inside.Judged.{AreBroken, AreRead, ComesTo, Go
 ghost use Rattle.site_audit.specs.Legal.{IsBrokenAt, IsIllegalLog, IsLegalLog};
 ghost use Rattle.site_audit.specs.Verdicts.{SendsVerdict, legal_text};
 ghost use Rattle.site_audit.specs.declared.fault.AuditFault.TheVariants as faults;
-ghost use Rattle.site_texts.specs.Sent.{GoesOn, HasSent, HasSentPart};
+ghost use Rattle.site_texts.specs.Sent.{HasSent, HasSentPart};
 ghost use Rattle.site_texts.specs.Texts.{ReadsOnce};
 ghost use Rattle.std.specs.Prelude.{◌≡◌, ◌≢◌, ◌⊎◌, ◌+◌, ◌-◌, ◌<◌, ◌≤◌, ◌^◌, ℕ, false, length, slice_index, true, IfErr, IfNone, IfOk, IfSome, IsErrOf, List as ListOf, None, OnOk, Some, max};
 
@@ -84,7 +85,7 @@ pub fn audit<T: Site>(
         ((T.disk site.old).contents 0) (T.bytes_read site.old 0) (T.bytes_read site.new 0) }
     ensures only_log { ReadsOnlyLog (T.tells_reads site.old) (T.tells_reads site.new) (T.bytes_read site.old)
         (T.bytes_read site.new) }
-    ensures site { GoesOn T.told T.faults T.holds T.keeps site.old site.new }
+    ensures site { IsContinued T.told T.faults T.holds T.keeps site.old site.new }
 {
     let end = read_log(alloc, defs, scripts, exits, front, site)?;
     match end.illegal {
@@ -135,7 +136,7 @@ fn read_log<T: Site>(
     ensures only_log { ReadsOnlyLog (T.tells_reads site.old) (T.tells_reads site.new) (T.bytes_read site.old)
         (T.bytes_read site.new) }
     ensures stays { T.told site.old → Stays (T.disk site.old) (T.disk site.new) }
-    ensures site { GoesOn T.told T.faults T.holds T.keeps site.old site.new }
+    ensures site { IsContinued T.told T.faults T.holds T.keeps site.old site.new }
 {
     let mut log = Log::open(alloc, site, front)?;
     let mut auditor = Auditor::new(alloc, defs, scripts, log.format())?;
@@ -172,7 +173,7 @@ fn audit_groups<T: Site>(
     ensures only_log { ReadsOnlyLog (T.tells_reads site.old) (T.tells_reads site.new) (T.bytes_read site.old)
         (T.bytes_read site.new) }
     ensures stays { T.told site.old → Stays (T.disk site.old) (T.disk site.new) }
-    ensures site { GoesOn T.told T.faults T.holds T.keeps site.old site.new }
+    ensures site { IsContinued T.told T.faults T.holds T.keeps site.old site.new }
 {
     let mut place = Place {
         at: log.gate(),
@@ -230,7 +231,7 @@ fn audit_group<T: Site>(
     ensures only_log { ReadsOnlyLog (T.tells_reads site.old) (T.tells_reads site.new) (T.bytes_read site.old)
         (T.bytes_read site.new) }
     ensures stays { T.told site.old → Stays (T.disk site.old) (T.disk site.new) }
-    ensures site { GoesOn T.told T.faults T.holds T.keeps site.old site.new }
+    ensures site { IsContinued T.told T.faults T.holds T.keeps site.old site.new }
 {
     let Some(group) = log.group_at(site, place.at)? else {
         return Ok(None);
@@ -312,7 +313,7 @@ fn send_legal<T: Site>(alloc: Global, site: &mut T, count: u64) -> Result<(), Au
     ensures stayed { (IsErrOf result faults.SiteFault → ⊥) → T.faults site.new ≡ T.faults site.old }
     ensures reads { ReadsNothing (T.tells_reads site.old) (T.tells_reads site.new) (T.bytes_read site.old)
         (T.bytes_read site.new) }
-    ensures site { GoesOn T.told T.faults T.holds T.keeps site.old site.new }
+    ensures site { IsContinued T.told T.faults T.holds T.keeps site.old site.new }
 {
     let text = legal_line(alloc, count)?;
     site.send(text.as_slice())?;

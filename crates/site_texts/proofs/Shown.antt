@@ -6,7 +6,6 @@ use Rattle.std.proofs.lemmas.List.Concat.{flat_map-cons}
 use Rattle.fp_model.specs.declared.log.Entry.{Entry}
 use Rattle.fp_model.specs.Groups.{HoldsGroups, IsDamaged, entries_of}
 use Rattle.log_groups.specs.Reads.{HasGroup}
-use Rattle.fp_restart.proofs.Fits.{entries-more}
 use Rattle.log_groups.proofs.LogImages.{groups_more}
 use Rattle.fp_show.specs.GroupText.{group_text}
 use Rattle.fp_site.specs.Disk.{Disk, IsLawful, Stays}
@@ -15,6 +14,7 @@ use Rattle.site_texts.specs.Sent.{HasSent, HasSentPart}
 use Rattle.site_texts.specs.Texts.{groups_shown, log_shown}
 use Rattle.site_texts.proofs.Told.{part_on, part_whole, sent_none, sent_on, sent_then_stays}
 use Rattle.site_texts.specs.declared.groups.Place.{Place}
+use Rattle.model_laws.proofs.Entries.{entries_push}
 
 -- one group more behind others
 shown_more : (number first : ℕ) (groups : List (List Entry)) (group : List Entry)
@@ -74,7 +74,7 @@ are_sent_more first place next d0 d1 d2 law0 law1 so_far one =
     let same = ap (λ (f : ℕ → List ℕ). f 0) so_far.sent.contents in
     let group = subst (λ (l : List ℕ). HasGroup l place.at one.entries next.at) same one.group in
     let all : entries_of (so_far.groups ++ one.entries ∷ []) ≡ entries_of so_far.groups ++ one.entries =
-    entries-more so_far.groups one.entries in
+    entries_push so_far.groups one.entries in
     let text = behind_place first place d0 d1 so_far one.entries in
     record {
       groups = so_far.groups ++ one.entries ∷ [];

@@ -1,5 +1,5 @@
 -- Texts that are sent, whole or a first part of them, and what a crash leaves meanwhile.
-use Rattle.std.specs.Prelude.{◌≡◌, ◌⊎◌, ℕ, ◌≤◌, List, ◌++◌, take}
+use Rattle.std.specs.Prelude.{◌≡◌, ◌⊎◌, ℕ, List, ◌++◌, take}
 use Rattle.fp_site.specs.Disk.{Disk, Snapshot, Elapses, Sends, Settles}
 
 -- This text was sent, and nothing else changed: a crash at any moment leaves a first part of it sent.
@@ -24,12 +24,3 @@ pub record SyncsAndSends (old : Disk) (text : List ℕ) (s : Snapshot) : Type 0 
   pub others : (set : ℕ) → (set ≡ 0 → ⊥) → s.images set ≡ before.images set
   pub count : ℕ
   pub sent : old.tells_sent → s.sent ≡ before.sent ++ take count text
-
--- By what is told and by the numbers: calls were made of a site, and it is the same one.
-pub record GoesOn {X : Type 0} (told : X → Type 0) (faults holds : X → ℕ) (keeps : X → X → Type 0) (old new : X) : Type
-    0
-  where
-    pub later : faults old ≤ faults new
-    pub still_told : told old → told new
-    pub reference : holds new ≡ holds old
-    pub kept : (first : X) → keeps first old → keeps first new

@@ -1,4 +1,5 @@
 //! The text of the databases.
+ghost use Rattle.fp_lists.specs.Continued.{IsContinued};
 ghost use Rattle.fp_model.specs.LogText.{FitsFront, first_gate};
 ghost use Rattle.fp_model.specs.Product.{rules_of};
 ghost use Rattle.fp_model.specs.SerialHistory.{IsSerialHistory};
@@ -13,7 +14,7 @@ ghost use Rattle.fp_show.specs.DbText.{each_text, msdb_text};
 ghost use Rattle.log_groups.specs.Images.{BeginsFor, as_front, in_format};
 ghost use Rattle.log_groups.specs.Kept.{IsSound};
 ghost use Rattle.log_groups.specs.Reads.{ReadsOnlyLog};
-ghost use Rattle.site_texts.specs.Sent.{GoesOn, HasSent, HasSentPart};
+ghost use Rattle.site_texts.specs.Sent.{HasSent, HasSentPart};
 ghost use Rattle.site_texts.specs.inside.Sent.{IsTold};
 ghost use Rattle.site_texts.specs.Texts.{IsDbSent, ReadsOnce, SendsDb, msdbs_text};
 ghost use Rattle.fp_site.specs.Disk.{IsDurable};
@@ -76,7 +77,7 @@ pub fn show<T: Site>(
         ((T.disk site.old).contents 0) (T.bytes_read site.old 0) (T.bytes_read site.new 0) }
     ensures only_log { ReadsOnlyLog (T.tells_reads site.old) (T.tells_reads site.new) (T.bytes_read site.old)
         (T.bytes_read site.new) }
-    ensures site { GoesOn T.told T.faults T.holds T.keeps site.old site.new }
+    ensures site { IsContinued T.told T.faults T.holds T.keeps site.old site.new }
 {
     let (store, _log, _lasts) = restart(alloc, defs, front, site)?;
     send_databases(alloc, defs, &store, site)
@@ -101,7 +102,7 @@ fn send_databases<T: Site>(
     ensures stayed { (IsErrOf result faults.SiteFault → ⊥) → T.faults site.new ≡ T.faults site.old }
     ensures reads { ReadsNothing (T.tells_reads site.old) (T.tells_reads site.new) (T.bytes_read site.old)
         (T.bytes_read site.new) }
-    ensures site { GoesOn T.told T.faults T.holds T.keeps site.old site.new }
+    ensures site { IsContinued T.told T.faults T.holds T.keeps site.old site.new }
 {
     let mut held = Bytes::new(alloc);
     for (number, def) in defs.msdbs.as_slice().iter().enumerate() {
@@ -131,7 +132,7 @@ fn tell_database<T: Site>(
     ensures stayed { (IsErrOf result faults.SiteFault → ⊥) → T.faults site.new ≡ T.faults site.old }
     ensures reads { ReadsNothing (T.tells_reads site.old) (T.tells_reads site.new) (T.bytes_read site.old)
         (T.bytes_read site.new) }
-    ensures site { GoesOn T.told T.faults T.holds T.keeps site.old site.new }
+    ensures site { IsContinued T.told T.faults T.holds T.keeps site.old site.new }
 {
     let count = store.count(number);
     put_msdb_head(alloc, held, def, count as u64)?;

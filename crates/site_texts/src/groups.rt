@@ -6,7 +6,7 @@ ghost use Rattle.log_groups.specs.Reads.{HasGroup, ReadsOnlyLog};
 ghost use Rattle.fp_model.specs.Groups.{Groups, IsDamaged, Reads};
 ghost use Rattle.fp_model.specs.declared.log.Entry.{Entry as EntryOf};
 ghost use Rattle.site_texts.specs.inside.Groups.{AreAllSent, AreSentToDamage, IsOneSent, SendsFrom, SendsOne};
-ghost use Rattle.site_texts.specs.Sent.{GoesOn};
+ghost use Rattle.fp_lists.specs.Continued.{IsContinued};
 ghost use Rattle.site_texts.specs.Texts.{IsLogSent, IsSentToDamage, ReadsOnce, SendsGroups};
 ghost use Rattle.fp_site.specs.Disk.{Stays};
 ghost use Rattle.std.specs.Prelude.{◌≡◌, ◌≢◌, ◌⊎◌, ◌+◌, ◌-◌, ◌<◌, ◌≤◌, ◌^◌, ℕ, false, length, slice_index, true, IfNone, IfOk, IfSome, IsErrOf, List as ListOf, OnOk, max};
@@ -49,7 +49,7 @@ pub fn log<T: Site>(alloc: Global, front: &Front, site: &mut T) -> Result<(), Re
         ((T.disk site.old).contents 0) (T.bytes_read site.old 0) (T.bytes_read site.new 0) }
     ensures only_log { ReadsOnlyLog (T.tells_reads site.old) (T.tells_reads site.new) (T.bytes_read site.old)
         (T.bytes_read site.new) }
-    ensures site { GoesOn T.told T.faults T.holds T.keeps site.old site.new }
+    ensures site { IsContinued T.told T.faults T.holds T.keeps site.old site.new }
 {
     let mut log = Log::open(alloc, site, front)?;
     let first = log.gate();
@@ -89,7 +89,7 @@ fn send_groups<T: Site>(
         ≤ T.bytes_read site.old 0 + max first (length ((T.disk site.old).contents 0)) + 1 }
     ensures only_log { ReadsOnlyLog (T.tells_reads site.old) (T.tells_reads site.new) (T.bytes_read site.old)
         (T.bytes_read site.new) }
-    ensures site { GoesOn T.told T.faults T.holds T.keeps site.old site.new }
+    ensures site { IsContinued T.told T.faults T.holds T.keeps site.old site.new }
 {
     let mut place = Place {
         at: first,
@@ -142,7 +142,7 @@ fn send_group<T: Site>(
         ≤ T.bytes_read site.old 0 + max (place.at + 1) (length ((T.disk site.old).contents 0)) }
     ensures only_log { ReadsOnlyLog (T.tells_reads site.old) (T.tells_reads site.new) (T.bytes_read site.old)
         (T.bytes_read site.new) }
-    ensures site { GoesOn T.told T.faults T.holds T.keeps site.old site.new }
+    ensures site { IsContinued T.told T.faults T.holds T.keeps site.old site.new }
 {
     let Some(group) = log.group_at(site, place.at)? else {
         return Ok(None);

@@ -1,8 +1,9 @@
 //! A text that is sent in large parts, however small the pieces are that it is made of.
+ghost use Rattle.fp_lists.specs.Continued.{IsContinued};
 ghost use Rattle.fp_site.specs.Disk.{Disk};
 ghost use Rattle.fp_site.specs.Site.{ReadsNothing};
 ghost use Rattle.fp_lists.specs.Faults.{Counts};
-ghost use Rattle.site_texts.specs.Sent.{GoesOn, HasSent, HasSentPart};
+ghost use Rattle.site_texts.specs.Sent.{HasSent, HasSentPart};
 ghost use Rattle.site_texts.specs.inside.Sent.{IsTold};
 ghost use Rattle.std.specs.Prelude.{◌≡◌, ◌≤◌, ◌++◌, ℕ, [], OnOk};
 
@@ -25,7 +26,7 @@ pub(crate) fn send_held<T: Site>(
     ensures cause { Counts (T.faults site.old) (T.faults site.new) result }
     ensures reads { ReadsNothing (T.tells_reads site.old) (T.tells_reads site.new) (T.bytes_read site.old)
         (T.bytes_read site.new) }
-    ensures site { GoesOn T.told T.faults T.holds T.keeps site.old site.new }
+    ensures site { IsContinued T.told T.faults T.holds T.keeps site.old site.new }
 {
     site.send(held.as_slice())?;
     *held = Bytes::new(alloc);
@@ -44,7 +45,7 @@ pub(crate) fn send_large<T: Site>(
     ensures cause { Counts (T.faults site.old) (T.faults site.new) result }
     ensures reads { ReadsNothing (T.tells_reads site.old) (T.tells_reads site.new) (T.bytes_read site.old)
         (T.bytes_read site.new) }
-    ensures site { GoesOn T.told T.faults T.holds T.keeps site.old site.new }
+    ensures site { IsContinued T.told T.faults T.holds T.keeps site.old site.new }
 {
     if held.len() < PART {
         return Ok(());

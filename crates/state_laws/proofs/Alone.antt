@@ -24,10 +24,11 @@ use Rattle.state_laws.specs.Workspaces.{FitsWorkspace}
 use Rattle.state_laws.proofs.Answering.{answer_keeps}
 use Rattle.state_laws.proofs.Commits.{commit_good}
 use Rattle.state_laws.proofs.Keeping.{key_held, place_held}
-use Rattle.state_laws.proofs.Lists.{all_at, none_is_not_some}
+use Rattle.state_laws.proofs.Lists.{all_at}
 use Rattle.state_laws.proofs.Showing.{answer_fits}
 use Rattle.state_laws.proofs.Start.{start_good}
 use Rattle.state_laws.proofs.Ties.{answer_tied}
+use Rattle.std.proofs.lemmas.Option.{none-some}
 
 -- ---- the beginning
 
@@ -41,12 +42,12 @@ module _ (defs : Defs) where
   no_key_held : (msdb : ℕ) (key : List ℕ)
       → key_held (unwrap_or (slice_get (fresh defs).msdbs msdb) no_msdb_position) ≡ Some key → ⊥
   no_key_held msdb key e =
-      none_is_not_some key (sym (ap key_held (all_same defs.msdbs msdb no_msdb_position)) ∙ e)
+      none-some key (sym (ap key_held (all_same defs.msdbs msdb no_msdb_position)) ∙ e)
 
   no_place_held : (dedb : ℕ) (place : Place)
       → place_held (unwrap_or (slice_get (fresh defs).dedbs dedb) no_dedb_position) ≡ Some place → ⊥
   no_place_held dedb place e =
-      none_is_not_some place (sym (ap place_held (all_same defs.dedbs dedb no_dedb_position)) ∙ e)
+      none-some place (sym (ap place_held (all_same defs.dedbs dedb no_dedb_position)) ∙ e)
 
   pub fresh_fits : (db : Db) → FitsWorkspace defs db (fresh defs)
   fresh_fits db = record {

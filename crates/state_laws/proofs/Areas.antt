@@ -6,30 +6,10 @@ use Rattle.std.proofs.lemmas.List.Elements.{Contains-append_left, Contains-appen
 use Rattle.fp_model.specs.declared.definitions.AreaDef.{AreaDef}
 use Rattle.fp_model.specs.declared.definitions.DedbDef.{DedbDef}
 use Rattle.fp_model.specs.State.{Area, anchors_in, areas_from, areas_of_all, has_anchor}
-use Rattle.state_laws.proofs.Lists.{first_true, second_true, some_is, none_is_not_some}
+use Rattle.plain_laws.proofs.Alls.{contains_cases, contains_first, contains_later, contains_nothing}
+use Rattle.plain_laws.proofs.Truths.{first_of_both, second_of_both}
 
 -- ---- what a list contains
-
-pub contains_nothing : {X : Type 0} (x : X) → Contains [] x → ⊥
-contains_nothing x c = absurd (omega (arith, c.1))
-
-pub contains_first : {X : Type 0} (x : X) (xs : List X) → Contains (x ∷ xs) x
-contains_first x xs = Contains-append_left (x ∷ []) xs x (Contains-push [] x)
-
-pub contains_later : {X : Type 0} (y : X) (xs : List X) (x : X) → Contains xs x → Contains (y ∷ xs) x
-contains_later y xs x c = Contains-append_right (y ∷ []) xs x c
-
-pub contains_cases : {X : Type 0} (y : X) (xs : List X) (x : X) → Contains (y ∷ xs) x → (y ≡ x) ⊎ Contains xs x
-contains_cases y xs x c = elim (Contains-append_cases (y ∷ []) xs x c) [
-  | inl here ↦ elim (Contains-push_cases [] y x here)
-      [ inl none ↦ absurd (contains_nothing x none) | inr same ↦ inl same ]
-  | inr there ↦ inr there
-]
-
-pub get_contains : {X : Type 0} (xs : List X) (i : ℕ) (x : X) → slice_get xs i ≡ Some x → Contains xs x
-get_contains [] i x e = absurd (none_is_not_some x e)
-get_contains (y ∷ ys) zero x e = subst (λ z. Contains (y ∷ ys) z) (some_is y x e) (contains_first y ys)
-get_contains (y ∷ ys) (suc i) x e = contains_later y ys x (get_contains ys i x e)
 
 -- ---- the areas of one database
 
@@ -115,11 +95,11 @@ pub record LiesIn (a : Area) (anchor : ℕ) : Type 0 where
 
 pub lies_in : (a : Area) (dedb anchor : ℕ) → has_anchor a dedb anchor ≡ true → LiesIn a anchor
 lies_in a dedb anchor e =
-    let both = first_true (a.dedb == dedb && nat_le a.first_anchor anchor)
+    let both = first_of_both (a.dedb == dedb && nat_le a.first_anchor anchor)
     (nat_lt anchor (a.first_anchor + anchors_in a.def)) e in
-    let last = second_true (a.dedb == dedb && nat_le a.first_anchor anchor)
+    let last = second_of_both (a.dedb == dedb && nat_le a.first_anchor anchor)
     (nat_lt anchor (a.first_anchor + anchors_in a.def)) e in
-    let middle = second_true (a.dedb == dedb) (nat_le a.first_anchor anchor) both in
+    let middle = second_of_both (a.dedb == dedb) (nat_le a.first_anchor anchor) both in
     record { low = le a.first_anchor anchor middle; high = lt anchor (a.first_anchor + anchors_in a.def) last }
   where
     le : (m n : ℕ) → nat_le m n ≡ true → m ≤ n

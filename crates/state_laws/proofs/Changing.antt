@@ -12,11 +12,13 @@ use Rattle.fp_model.specs.Shape.{IsDedbOf, is_anchor, serials_in}
 use Rattle.fp_model.specs.State.{Area, anchors_in, areas_from, ascend, drop_key, has_anchor, is_below}
 use Rattle.fp_model.specs.Texts.{same_text}
 use Rattle.state_laws.specs.Changes.{FitsChange, HasNoneOrNow, IsNow, with_anchor}
-use Rattle.state_laws.proofs.Areas.{contains_cases, contains_first, contains_later, contains_nothing}
-use Rattle.key_order.proofs.Ascending.{all_above, below_differs, differs_back, is_same, tail_ascends}
+use Rattle.key_order.proofs.Ascending.{all_above, below_differs, differs_back, tail_ascends}
 use Rattle.state_laws.proofs.Counts.{distinct_few, few_times, part_fewer, times, times_append}
-use Rattle.state_laws.proofs.Lists.{none_is_not_some, some_is, true_is_not_false}
-use Rattle.state_laws.proofs.Ranges.{get_set_other, get_set_same, length_set}
+use Rattle.state_laws.proofs.Lists.{true_is_not_false}
+use Rattle.plain_laws.proofs.Alls.{contains_cases, contains_first, contains_later, contains_nothing}
+use Rattle.plain_laws.proofs.Places.{get_other, get_set_same, length_set}
+use Rattle.model_laws.proofs.Texts.{text_is_same}
+use Rattle.std.proofs.lemmas.Option.{none-some, same_Some}
 
 abbrev pub serials_of : Root → List ℕ
 serials_of root = map (λ item. item.serial) root.seqs
@@ -118,13 +120,13 @@ module _ (key : Root → List ℕ) (n : ℕ) where
           let same_times : times n (serials_of r) ≡ times n (serials_of its.0) =
           ap (λ items. times n (map (λ item. item.serial) items)) its.1.same_dependents in
           let one = one_fewer (key r) now its.0 its.1.there
-          (subst (λ (j : List ℕ). same_text j (key r) ≡ true) (sym its.1.same_key) (is_same (key r))) in
+          (subst (λ (j : List ℕ). same_text j (key r) ≡ true) (sym its.1.same_key) (text_is_same (key r))) in
           omega (arith, same_times, one, other_h, count_more r rest)
 
 -- what stood at a place that was written
 was_there : {X : Type 0} (xs : List X) (r : ℕ) (a y : X) → slice_get (slice_set xs r a) r ≡ Some y → (x : X)
     × (slice_get xs r ≡ Some x)
-was_there [] r a y e = absurd (none_is_not_some y e)
+was_there [] r a y e = absurd (none-some y e)
 was_there (x ∷ xs) zero a y e = (x, refl)
 was_there (x ∷ xs) (suc r) a y e = was_there xs r a y e
 
@@ -137,7 +139,7 @@ module _ (def : DedbDef) (dedb : Dedb) (anchor : ℕ) (roots : List Root) (good 
       let here : slice_get (slice_set dedb.anchors anchor roots) anchor ≡ Some y =
       subst (λ (k : ℕ). slice_get (slice_set dedb.anchors anchor roots) k ≡ Some y) same e in
       let was = was_there dedb.anchors anchor roots y here in
-      (was.0, was.1, some_is roots y (sym (get_set_same dedb.anchors anchor roots was.0 was.1) ∙ here))
+      (was.0, was.1, same_Some roots y (sym (get_set_same dedb.anchors anchor roots was.0 was.1) ∙ here))
 
   anchors_changed : (area : Area) (ends : AreaEnds) (at : ℕ) (y : List Root)
       → Contains (areas_from 0 0 0 def.areas) area → slice_get dedb.areas area.number ≡ Some ends
@@ -150,7 +152,7 @@ module _ (def : DedbDef) (dedb : Dedb) (anchor : ℕ) (roots : List Root) (good 
         (subst (λ (k : ℕ). is_anchor def k ends roots ≡ true) (sym same)
         (fits.in_shape area ends there ends_at (subst (λ (k : ℕ). has_anchor area 0 k ≡ true) same has)))
     | inr other ↦ good.each_anchor area ends at y there ends_at has
-        (sym (get_set_other dedb.anchors anchor at roots other) ∙ e)
+        (sym (get_other dedb.anchors anchor at roots other) ∙ e)
   ]
 
   fewer_at : (n at : ℕ) (y : List Root) → slice_get (slice_set dedb.anchors anchor roots) at ≡ Some y → (x : List Root)
@@ -162,7 +164,7 @@ module _ (def : DedbDef) (dedb : Dedb) (anchor : ℕ) (roots : List Root) (good 
         subst (λ (k : ℕ). slice_get dedb.anchors k ≡ Some w.0) (sym same) w.1 in
         let le = no_more (root_key def.segments) n roots w.0 fits.keys (fits.dependents w.0 w.1) in
         (w.0, now, subst (λ (rs : List Root). times n (serials_at rs) ≤ times n (serials_at w.0)) w.2 le)
-    | inr other ↦ (y, sym (get_set_other dedb.anchors anchor at roots other) ∙ e, le_itself (times n (serials_at y)))
+    | inr other ↦ (y, sym (get_other dedb.anchors anchor at roots other) ∙ e, le_itself (times n (serials_at y)))
   ]
     where
       le_itself : (m : ℕ) → m ≤ m

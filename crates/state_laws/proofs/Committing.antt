@@ -16,9 +16,12 @@ use Rattle.fp_model.specs.Workspace.{change_precedes}
 use Rattle.state_laws.specs.Changes.{with_anchor}
 use Rattle.state_laws.specs.Parts.{FitsAnchorChange, changes_ascend}
 use Rattle.state_laws.proofs.Changing.{changed_good}
-use Rattle.state_laws.proofs.Lists.{each_at, each_set, first_true, second_true, some_is}
-use Rattle.state_laws.proofs.Purging.{lt_is}
-use Rattle.state_laws.proofs.Ranges.{get_set_other, get_set_same}
+use Rattle.state_laws.proofs.Lists.{each_at}
+use Rattle.plain_laws.proofs.Alls.{each_set}
+use Rattle.plain_laws.proofs.Truths.{first_of_both, second_of_both}
+use Rattle.plain_laws.proofs.Places.{get_other, get_set_same}
+use Rattle.plain_laws.proofs.Numbers.{lt_is}
+use Rattle.std.proofs.lemmas.Option.{same_Some}
 
 -- ---- the order of changes
 
@@ -36,8 +39,8 @@ is_after c d e = by (nat_lt c.dedb d.dedb) refl e
         → IsAfter c d
     by true is e = inl (lt_is c.dedb d.dedb is)
     by false is e = inr (
-      number_is c.dedb d.dedb (first_true (c.dedb == d.dedb) (nat_lt c.anchor d.anchor) e),
-      lt_is c.anchor d.anchor (second_true (c.dedb == d.dedb) (nat_lt c.anchor d.anchor) e),
+      number_is c.dedb d.dedb (first_of_both (c.dedb == d.dedb) (nat_lt c.anchor d.anchor) e),
+      lt_is c.anchor d.anchor (second_of_both (c.dedb == d.dedb) (nat_lt c.anchor d.anchor) e),
     )
 
 after_that : (c d e : AnchorChange) → IsAfter c d → IsAfter d e → IsAfter c e
@@ -51,8 +54,8 @@ pub all_after : (c : AnchorChange) (others : List AnchorChange) → changes_asce
     → AllByRecursion (IsAfter c) others
 all_after c [] e = tt
 all_after c (d ∷ others) e =
-    let first = is_after c d (first_true (change_precedes c d) (changes_ascend (d ∷ others)) e) in
-    let later = all_after d others (second_true (change_precedes c d) (changes_ascend (d ∷ others)) e) in
+    let first = is_after c d (first_of_both (change_precedes c d) (changes_ascend (d ∷ others)) e) in
+    let later = all_after d others (second_of_both (change_precedes c d) (changes_ascend (d ∷ others)) e) in
     (first, those others later first)
   where
     those : (rest : List AnchorChange) → AllByRecursion (IsAfter d) rest → IsAfter c d → AllByRecursion (IsAfter c) rest
@@ -62,7 +65,7 @@ all_after c (d ∷ others) e =
 pub others_ascend : (c : AnchorChange) (others : List AnchorChange) → changes_ascend (c ∷ others) ≡ true
     → changes_ascend others ≡ true
 others_ascend c [] e = refl
-others_ascend c (d ∷ others) e = second_true (change_precedes c d) (changes_ascend (d ∷ others)) e
+others_ascend c (d ∷ others) e = second_of_both (change_precedes c d) (changes_ascend (d ∷ others)) e
 
 -- ---- one change
 
@@ -81,7 +84,7 @@ module _ (defs : Defs) (db : Db) (c : AnchorChange) (fit : FitsAnchorChange defs
   -- and nowhere else
   elsewhere : (n : ℕ) → ¬ (n ≡ c.dedb) → slice_get after.dedbs n ≡ slice_get db.dedbs n
   elsewhere n other = ap (λ (ds : List Dedb). slice_get ds n) changed_to
-      ∙ get_set_other db.dedbs c.dedb n (with_anchor c.anchor c.roots fit.dedb) other
+      ∙ get_other db.dedbs c.dedb n (with_anchor c.anchor c.roots fit.dedb) other
 
   change_good : IsDbOf defs db → IsDbOf defs after
   change_good good =
@@ -105,7 +108,7 @@ module _ (defs : Defs) (db : Db) (c : AnchorChange) (fit : FitsAnchorChange defs
   still_fits d (inr later) one =
       let at : slice_get db.dedbs c.dedb ≡ Some one.dedb =
       subst (λ (n : ℕ). slice_get db.dedbs n ≡ Some one.dedb) (sym later.0) one.now in
-      let same : fit.dedb ≡ one.dedb = some_is fit.dedb one.dedb (sym fit.now ∙ at) in
+      let same : fit.dedb ≡ one.dedb = same_Some fit.dedb one.dedb (sym fit.now ∙ at) in
       let at_changed : slice_get after.dedbs d.dedb ≡ Some (with_anchor c.anchor c.roots fit.dedb) =
       subst (λ (n : ℕ). slice_get after.dedbs n ≡ Some (with_anchor c.anchor c.roots fit.dedb)) later.0 there in
       record {
@@ -117,7 +120,7 @@ module _ (defs : Defs) (db : Db) (c : AnchorChange) (fit : FitsAnchorChange defs
           keys = one.fits.keys;
           in_shape = one.fits.in_shape;
           dependents = λ now e. one.fits.dependents now
-              (sym (get_set_other one.dedb.anchors c.anchor d.anchor c.roots
+              (sym (get_other one.dedb.anchors c.anchor d.anchor c.roots
               (λ q. absurd (omega (arith, q, later.1)))) ∙ e);
         };
       }

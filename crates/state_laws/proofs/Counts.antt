@@ -3,17 +3,12 @@ use Rattle.std.proofs.Common.{◌≡◌, ℕ, zero, suc, ◌+◌, ◌≤◌, Lis
 use Rattle.std.specs.Prelude.{flat_map, if◌then◌else◌}
 use Rattle.std.specs.List.{AllByRecursion, IsDistinct}
 use Rattle.state_laws.proofs.Lists.{true_is_not_false}
+use Rattle.plain_laws.proofs.Numbers.{is_number, number_is}
 
 -- how often a number stands there
 abbrev pub times : ℕ → List ℕ → ℕ
 times n [] = 0
 times n (m ∷ ms) = (if m == n then 1 else 0) + times n ms
-
-number_is : (a b : ℕ) → (a == b) ≡ true → a ≡ b
-number_is a b e = grind arith
-
-is_number : (a : ℕ) → (a == a) ≡ true
-is_number a = grind arith
 
 pub times_append : (n : ℕ) (ms ks : List ℕ) → times n (ms ++ ks) ≡ times n ms + times n ks
 times_append n [] ks = sym (omega arith)

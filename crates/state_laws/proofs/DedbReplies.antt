@@ -24,20 +24,22 @@ use Rattle.fp_model.specs.WellFormed.{AreDefs, HavePlaces, IsDedbDef}
 use Rattle.fp_model.specs.Workspace.{Workspace}
 use Rattle.state_laws.specs.Edits.{FitsBytes, FitsEdit, FitsEnd, IsNew}
 use Rattle.state_laws.specs.Workspaces.{FitsPlace, FitsWorkspace, MayStand}
-use Rattle.key_order.proofs.Ascending.{same_is}
 use Rattle.state_laws.proofs.Keeping.{with_change, with_dedb, with_fewer_inserts, with_insert}
-use Rattle.state_laws.proofs.Lists.{all_at, each_at, found_has, none_is_not_some, some_is, true_is_not_false, first_true}
+use Rattle.state_laws.proofs.Lists.{all_at, each_at, found_has, true_is_not_false}
 use Rattle.state_laws.proofs.Paths.{ends_fit, insert_direct, last_is, sequential_found}
 use Rattle.state_laws.proofs.Purging.{partner}
 use Rattle.state_laws.proofs.Seen.{AreSeen, edited_fits, edited_may_stand, seen_good}
 use Rattle.state_laws.proofs.Sequences.{IsSegment, anchor_shows}
+use Rattle.plain_laws.proofs.Truths.{first_of_both}
+use Rattle.std.proofs.lemmas.Option.{none-some, same_Some}
+use Rattle.model_laws.proofs.Texts.{same_text_is}
 
 -- ---- what is found
 
 -- what a search finds was found at its anchor
 pub found_at : (look : ℕ → Option Occurrence) (anchors : List ℕ) (found : ℕ × Occurrence)
     → dedb.first_found look anchors ≡ Some found → look found.0 ≡ Some found.1
-found_at look [] found e = absurd (none_is_not_some found e)
+found_at look [] found e = absurd (none-some found e)
 found_at look (anchor ∷ anchors) found e = by (look anchor) refl e (found_at look anchors found)
   where
     by : (o : Option Occurrence) → look anchor ≡ o
@@ -45,10 +47,10 @@ found_at look (anchor ∷ anchors) found e = by (look anchor) refl e (found_at l
         → (dedb.first_found look anchors ≡ Some found → look found.0 ≡ Some found.1) → look found.0 ≡ Some found.1
     by None is e later = later e
     by (Some s) is e later =
-        subst (λ (x : ℕ × Occurrence). look x.0 ≡ Some x.1) (some_is (anchor, s) found e) is
+        subst (λ (x : ℕ × Occurrence). look x.0 ≡ Some x.1) (same_Some (anchor, s) found e) is
 
 -- bytes as long as the last type of a path, with the key there, fit its end
-end_fits : (def : DedbDef) (number : ℕ) (bytes : List ℕ) (path : List Step)
+pub end_fits : (def : DedbDef) (number : ℕ) (bytes : List ℕ) (path : List Step)
     → has_length def.segments (dedb.type_of_path def number path) bytes ≡ true
     → key_in def.segments (dedb.type_of_path def number path) bytes ≡ dedb.key_of_path def number path
     → FitsEnd def.segments path bytes
@@ -84,7 +86,7 @@ module _ (defs : Defs) (db : Db) (are : AreDefs defs) (good : IsDbOf defs db) (o
 
     hold_ended : FitsWorkspace defs db (dedb.hold_ended def number own)
     hold_ended = with_dedb defs db own f number (record (dedb.position_of def number own) { held = false })
-        (λ d place at e. absurd (none_is_not_some place e))
+        (λ d place at e. absurd (none-some place e))
 
     -- ---- gets
 
@@ -111,13 +113,13 @@ module _ (defs : Defs) (db : Db) (are : AreDefs defs) (good : IsDbOf defs db) (o
         let parent : Option Place = dedb.parent_after def number g (dedb.position_of def number own).parent place in
         with_dedb defs db own f number (record { place = Some place; parent = parent; held = hold })
         (λ d p at e.
-        let same : def ≡ d = some_is def d (sym defined ∙ at) in
+        let same : def ≡ d = same_Some def d (sym defined ∙ at) in
         let here : FitsPlace def number place = its_place found.1 found.0 (segments found refl) in
         subst (λ (x : DedbDef). FitsPlace x number p) same (subst (FitsPlace def number) (held hold place p e) here))
       where
         held : (b : Bool) (place p : Place) → (if b then Some place else None) ≡ Some p → place ≡ p
-        held true place p e = some_is place p e
-        held false place p e = absurd (none_is_not_some p e)
+        held true place p e = same_Some place p e
+        held false place p e = absurd (none-some p e)
 
     get_keeps : (g : Get) (hold : Bool) (ssas : List Ssa) → Keeps (dedb.get_reply def number db own g hold ssas)
     get_keeps g hold ssas = by (not (dedb.are_get_arguments def number ssas)) (dedb.lacks_parent def number own g)
@@ -158,7 +160,7 @@ module _ (defs : Defs) (db : Db) (are : AreDefs defs) (good : IsDbOf defs db) (o
         })
         (λ d at.
         subst (λ (x : DedbDef). MayStand x anchor (edited def.segments roots path edit))
-        (some_is def d (sym defined ∙ at))
+        (same_Some def d (sym defined ∙ at))
         (edited_may_stand def anchor roots path edit s.may_stand fits))
 
     -- ---- ISRT
@@ -175,7 +177,7 @@ module _ (defs : Defs) (db : Db) (are : AreDefs defs) (good : IsDbOf defs db) (o
       type = dedb.type_of_last def number ssas
 
       only : dedb.only_last_unqualified def number ssas ≡ true
-      only = first_true (dedb.only_last_unqualified def number ssas)
+      only = first_of_both (dedb.only_last_unqualified def number ssas)
           (same_text (map (λ (a : Ssa). a.segment) ssas) (line_to def.segments type)) ok
 
       -- a path of steps ends somewhere, so what doesn't stand there is no bytes
@@ -208,7 +210,7 @@ module _ (defs : Defs) (db : Db) (are : AreDefs defs) (good : IsDbOf defs db) (o
             place = Some (record { anchor = anchor; path = path });
             parent = (dedb.position_of def number own).parent;
             held = false;
-          }) (λ d p at e. absurd (none_is_not_some p e))
+          }) (λ d p at e. absurd (none-some p e))
 
       queued_keeps : is_sequential def.segments type ≡ true → Keeps (dedb.queued_insert def number own path bytes)
       queued_keeps sequential =
@@ -292,10 +294,10 @@ module _ (defs : Defs) (db : Db) (are : AreDefs defs) (good : IsDbOf defs db) (o
         by false kind false same = hold_ended
         by false kind true same =
             let type_is : fit.0 ≡ dedb.type_of_path def number place.path =
-            some_is fit.0 (dedb.type_of_path def number place.path) (sym fit.1 ∙ tied place refl) in
+            same_Some fit.0 (dedb.type_of_path def number place.path) (sym fit.1 ∙ tied place refl) in
             let long : has_length def.segments (dedb.type_of_path def number place.path) bytes ≡ true =
             subst (λ (t : ℕ). has_length def.segments t bytes ≡ true) type_is fit.2 in
-            let key = same_is (key_in def.segments (dedb.type_of_path def number place.path) bytes)
+            let key = same_text_is (key_in def.segments (dedb.type_of_path def number place.path) bytes)
             (dedb.key_of_path def number place.path) same in
             edit_at_keeps place (Replaces bytes) (f.places number def place defined is) kind
             (end_fits def number bytes place.path long key) tt

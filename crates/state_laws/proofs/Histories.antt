@@ -16,8 +16,8 @@ use Rattle.fp_model.specs.WellFormed.{AreDefs}
 use Rattle.state_laws.specs.Talks.{ScriptsFit}
 use Rattle.state_laws.proofs.Alone.{alone_good}
 use Rattle.state_laws.proofs.Purging.{purge_good}
-use Rattle.state_laws.proofs.Sequences.{all_append}
 use Rattle.state_laws.proofs.Start.{start_good}
+use Rattle.plain_laws.proofs.Alls.{all_append}
 
 last_of : {X : Type 0} (P : X → Type 0) (xs : List X) (x : X) → AllByRecursion P (xs ++ x ∷ []) → P x
 last_of P [] x all = all.0

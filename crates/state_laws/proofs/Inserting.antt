@@ -13,9 +13,10 @@ use Rattle.fp_model.specs.Shape.{are_newest_first, has_length, have_lengths, is_
 use Rattle.fp_model.specs.State.{ascend}
 use Rattle.fp_model.specs.Texts.{same_text}
 use Rattle.state_laws.specs.Inserts.{ending_at, with_serial}
-use Rattle.state_laws.proofs.Lists.{both_true}
-use Rattle.state_laws.proofs.Purging.{is_le, is_lt, later_end}
+use Rattle.state_laws.proofs.Purging.{later_end}
 use Rattle.state_laws.proofs.Roots.{from_good, of_parts, passes, to_good, whole}
+use Rattle.std.proofs.lemmas.Bool.{and_from}
+use Rattle.plain_laws.proofs.Numbers.{is_le, lt_true}
 
 module _ (def : DedbDef) (anchor : ℕ) (ends : AreaEnds) (end : ℕ) (later : ends.end ≤ end) where
   -- a root stays in shape where the end moves on
@@ -59,11 +60,11 @@ module _ (def : DedbDef) (anchor : ℕ) (ends : AreaEnds) (key bytes : List ℕ)
       of_parts def anchor last (with_newest item root) (record {
         long = k.long;
         rows = k.rows;
-        newest = both_true (nat_le ends.begin ends.end && nat_lt ends.end (ends.end + 1))
+        newest = and_from (nat_le ends.begin ends.end && nat_lt ends.end (ends.end + 1))
             (are_newest_first ends.begin ends.end root.seqs)
-            (both_true (nat_le ends.begin ends.end) (nat_lt ends.end (ends.end + 1)) (is_le ends.begin ends.end order)
-            (is_lt ends.end (ends.end + 1) (omega arith))) k.newest;
-        lengths = both_true (option_map_or (λ t. has_length def.segments t bytes) (sequential_type def.segments) false)
+            (and_from (nat_le ends.begin ends.end) (nat_lt ends.end (ends.end + 1)) (is_le ends.begin ends.end order)
+            (lt_true ends.end (ends.end + 1) (omega arith))) k.newest;
+        lengths = and_from (option_map_or (λ t. has_length def.segments t bytes) (sequential_type def.segments) false)
             (have_lengths def.segments root.seqs) its_length k.lengths;
         here = k.here;
       })

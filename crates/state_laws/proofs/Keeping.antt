@@ -15,8 +15,11 @@ use Rattle.fp_model.specs.Order.{Place}
 use Rattle.fp_model.specs.Workspace.{DedbPosition, MsdbPosition, Workspace, change_precedes, no_dedb_position, no_msdb_position, put_change}
 use Rattle.state_laws.specs.Parts.{FitsAnchorChange, FitsSeqInsert, changes_ascend}
 use Rattle.state_laws.specs.Workspaces.{ChangeMayStand, FitsPlace, FitsWorkspace}
-use Rattle.state_laws.proofs.Lists.{all_filter, both_true, first_true, second_true, true_is_not_false}
-use Rattle.state_laws.proofs.Sequences.{all_append}
+use Rattle.state_laws.proofs.Lists.{all_filter, true_is_not_false}
+use Rattle.plain_laws.proofs.Alls.{all_append}
+use Rattle.std.proofs.lemmas.Bool.{and_from}
+use Rattle.plain_laws.proofs.Truths.{first_of_both, second_of_both}
+use Rattle.state_laws.proofs.Committing.{others_ascend}
 
 -- ---- changes in order
 
@@ -63,41 +66,36 @@ precedes_too c d e cd dc de =
 put_behind : (d c : AnchorChange) (others : List AnchorChange) → change_precedes d c ≡ true
     → changes_ascend (d ∷ others) ≡ true → changes_ascend (put_change c others) ≡ true
     → changes_ascend (d ∷ put_change c others) ≡ true
-put_behind d c [] dc up put = both_true (change_precedes d c) true dc refl
+put_behind d c [] dc up put = and_from (change_precedes d c) true dc refl
 put_behind d c (e ∷ rest) dc up put = by (change_precedes c e) (change_precedes e c) put
   where
     by : (a b : Bool)
         → changes_ascend (if a then c ∷ e ∷ rest else (if b then e ∷ put_change c rest else c ∷ rest)) ≡ true
         → changes_ascend (d ∷ (if a then c ∷ e ∷ rest else (if b then e ∷ put_change c rest else c ∷ rest))) ≡ true
-    by true b put = both_true (change_precedes d c) (changes_ascend (c ∷ e ∷ rest)) dc put
+    by true b put = and_from (change_precedes d c) (changes_ascend (c ∷ e ∷ rest)) dc put
     by false true put =
-        both_true (change_precedes d e) (changes_ascend (e ∷ put_change c rest))
-        (first_true (change_precedes d e) (changes_ascend (e ∷ rest)) up) put
-    by false false put = both_true (change_precedes d c) (changes_ascend (c ∷ rest)) dc put
+        and_from (change_precedes d e) (changes_ascend (e ∷ put_change c rest))
+        (first_of_both (change_precedes d e) (changes_ascend (e ∷ rest)) up) put
+    by false false put = and_from (change_precedes d c) (changes_ascend (c ∷ rest)) dc put
 
 in_place : (c d : AnchorChange) (others : List AnchorChange) → change_precedes c d ≡ false
     → change_precedes d c ≡ false → changes_ascend (d ∷ others) ≡ true → changes_ascend (c ∷ others) ≡ true
 in_place c d [] cd dc up = refl
 in_place c d (e ∷ rest) cd dc up =
-    both_true (change_precedes c e) (changes_ascend (e ∷ rest))
-    (precedes_too c d e cd dc (first_true (change_precedes d e) (changes_ascend (e ∷ rest)) up))
-    (second_true (change_precedes d e) (changes_ascend (e ∷ rest)) up)
-
-rest_ascend : (d : AnchorChange) (others : List AnchorChange) → changes_ascend (d ∷ others) ≡ true
-    → changes_ascend others ≡ true
-rest_ascend d [] up = refl
-rest_ascend d (e ∷ rest) up = second_true (change_precedes d e) (changes_ascend (e ∷ rest)) up
+    and_from (change_precedes c e) (changes_ascend (e ∷ rest))
+    (precedes_too c d e cd dc (first_of_both (change_precedes d e) (changes_ascend (e ∷ rest)) up))
+    (second_of_both (change_precedes d e) (changes_ascend (e ∷ rest)) up)
 
 pub put_ascends : (c : AnchorChange) (changes : List AnchorChange) → changes_ascend changes ≡ true
     → changes_ascend (put_change c changes) ≡ true
 put_ascends c [] up = refl
 put_ascends c (d ∷ others) up =
-    by (change_precedes c d) (change_precedes d c) refl refl (put_ascends c others (rest_ascend d others up))
+    by (change_precedes c d) (change_precedes d c) refl refl (put_ascends c others (others_ascend d others up))
   where
     by : (a b : Bool) → change_precedes c d ≡ a → change_precedes d c ≡ b
         → changes_ascend (put_change c others) ≡ true
         → changes_ascend (if a then c ∷ d ∷ others else (if b then d ∷ put_change c others else c ∷ others)) ≡ true
-    by true b cd dc put = both_true (change_precedes c d) (changes_ascend (d ∷ others)) cd up
+    by true b cd dc put = and_from (change_precedes c d) (changes_ascend (d ∷ others)) cd up
     by false true cd dc put = put_behind d c others dc up put
     by false false cd dc put = in_place c d others cd dc up
 

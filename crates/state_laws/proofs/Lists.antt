@@ -1,60 +1,35 @@
 -- Elements at a place, and two lists element by element.
-use Rattle.std.proofs.Common.{◌≡◌, ℕ, zero, suc, List, [], ◌∷◌, Some, None, refl, sym, subst, Bool, true, false, ◌&&◌, slice_get, slice_set}
+use Rattle.std.proofs.Common.{◌≡◌, ℕ, zero, suc, List, [], ◌∷◌, Some, subst, Bool, true, false, slice_get}
 use Rattle.std.specs.Prelude.{filter, find, if◌then◌else◌}
 use Rattle.std.specs.List.{AllByRecursion, AllZip, IsDistinct}
+use Rattle.std.proofs.lemmas.Option.{none-some, same_Some}
 
 pub true_is_not_false : true ≡ false → ⊥
 true_is_not_false e = cc
 
-pub some_is : {A : Type 0} (x y : A) → Some x ≡ Some y → x ≡ y
-some_is x y e = cc
-
-pub none_is_not_some : {A : Type 0} (x : A) → None ≡ Some x → ⊥
-none_is_not_some x e = cc
-
-pub first_true : (a b : Bool) → (a && b) ≡ true → a ≡ true
-first_true true b e = refl
-first_true false b e = e
-
-pub second_true : (a b : Bool) → (a && b) ≡ true → b ≡ true
-second_true true b e = e
-second_true false b e = absurd (true_is_not_false (sym e))
-
-pub both_true : (a b : Bool) → a ≡ true → b ≡ true → (a && b) ≡ true
-both_true a b p q = rw (p, q) refl
-
 -- what is found has what all have
 pub found_has : {X : Type 0} (P : X → Type 0) (p : X → Bool) (xs : List X) (x : X) → AllByRecursion P xs
     → find p xs ≡ Some x → P x
-found_has P p [] x all e = absurd (none_is_not_some x e)
+found_has P p [] x all e = absurd (none-some x e)
 found_has {X} P p (y ∷ ys) x all e = by (p y) e (λ f. found_has P p ys x all.1 f)
   where
     by : (b : Bool) → (if b then Some y else find p ys) ≡ Some x → (find p ys ≡ Some x → P x) → P x
-    by true e later = subst P (some_is y x e) all.0
+    by true e later = subst P (same_Some y x e) all.0
     by false e later = later e
-
--- with another element at a place that has the relation to its partner there
-pub each_set : {A B : Type 0} (R : A → B → Type 0) (xs : List A) (ys : List B) (n : ℕ) (x : A) (y : B) → AllZip R xs ys
-    → slice_get xs n ≡ Some x → R x y → AllZip R xs (slice_set ys n y)
-each_set R [] [] n x y all at one = tt
-each_set R [] (b ∷ ys) n x y all at one = absurd all
-each_set R (a ∷ xs) [] n x y all at one = absurd all
-each_set R (a ∷ xs) (b ∷ ys) zero x y all at one = (subst (λ z. R z y) (sym (some_is a x at)) one, all.1)
-each_set R (a ∷ xs) (b ∷ ys) (suc n) x y all at one = (all.0, each_set R xs ys n x y all.1 at one)
 
 -- partners at a place have the relation
 pub each_at : {A B : Type 0} (R : A → B → Type 0) (xs : List A) (ys : List B) (n : ℕ) (x : A) (y : B) → AllZip R xs ys
     → slice_get xs n ≡ Some x → slice_get ys n ≡ Some y → R x y
-each_at R [] ys n x y all at there = absurd (none_is_not_some x at)
+each_at R [] ys n x y all at there = absurd (none-some x at)
 each_at R (a ∷ xs) [] n x y all at there = absurd all
 each_at {A} {B} R (a ∷ xs) (b ∷ ys) zero x y all at there =
-    subst (λ z. R z y) (some_is a x at) (subst (λ z. R a z) (some_is b y there) all.0)
+    subst (λ z. R z y) (same_Some a x at) (subst (λ z. R a z) (same_Some b y there) all.0)
 each_at R (a ∷ xs) (b ∷ ys) (suc n) x y all at there = each_at R xs ys n x y all.1 at there
 
 pub all_at : {X : Type 0} (P : X → Type 0) (xs : List X) (n : ℕ) (x : X) → AllByRecursion P xs → slice_get xs n ≡ Some x
     → P x
-all_at P [] n x all at = absurd (none_is_not_some x at)
-all_at P (y ∷ ys) zero x all at = subst P (some_is y x at) all.0
+all_at P [] n x all at = absurd (none-some x at)
+all_at P (y ∷ ys) zero x all at = subst P (same_Some y x at) all.0
 all_at P (y ∷ ys) (suc n) x all at = all_at P ys n x all.1 at
 
 -- ---- filters

@@ -19,10 +19,10 @@ use Rattle.fp_model.specs.State.{key_of, segment_after, segment_of}
 use Rattle.fp_model.specs.Texts.{same_text}
 use Rattle.fp_model.specs.Workspace.{Workspace}
 use Rattle.state_laws.specs.Workspaces.{FitsWorkspace}
-use Rattle.key_order.proofs.Ascending.{same_is}
 use Rattle.state_laws.proofs.Keeping.{with_deferred, with_msdb}
-use Rattle.state_laws.proofs.Lists.{none_is_not_some, some_is}
-use Rattle.state_laws.proofs.Stands.{found_passes}
+use Rattle.plain_laws.proofs.Alls.{found_passes}
+use Rattle.std.proofs.lemmas.Option.{none-some, same_Some}
+use Rattle.model_laws.proofs.Texts.{same_text_is}
 
 module _ (defs : Defs) (db : Db) (own : Workspace) (f : FitsWorkspace defs db own) (number : ℕ) (def : MsdbDef)
     (defined : slice_get defs.msdbs number ≡ Some def) where
@@ -36,7 +36,7 @@ module _ (defs : Defs) (db : Db) (own : Workspace) (f : FitsWorkspace defs db ow
 
   hold_ended : FitsWorkspace defs db (msdb.hold_ended def number own)
   hold_ended = with_msdb defs db own f number (record (msdb.position_of def number own) { held = false })
-      (λ d key at e. absurd (none_is_not_some key e))
+      (λ d key at e. absurd (none-some key e))
 
   refused : (status : List ℕ) → Keeps (msdb.refused def number own status)
   refused status = hold_ended
@@ -53,13 +53,13 @@ module _ (defs : Defs) (db : Db) (own : Workspace) (f : FitsWorkspace defs db ow
   found status hold None fits = hold_ended
   found status false (Some segment) fits =
       with_msdb defs db own f number (record { key = Some (key_of def.fields segment); held = false })
-      (λ d key at e. absurd (none_is_not_some key e))
+      (λ d key at e. absurd (none-some key e))
   found status true (Some segment) fits =
       with_msdb defs db own f number (record { key = Some (key_of def.fields segment); held = true })
       (λ d key at e.
-      let same : def ≡ d = some_is def d (sym defined ∙ at) in
+      let same : def ≡ d = same_Some def d (sym defined ∙ at) in
       let its : FitsKey key def =
-      subst (λ (k : List ℕ). FitsKey k def) (some_is (key_of def.fields segment) key e) (fits segment refl refl) in
+      subst (λ (k : List ℕ). FitsKey k def) (same_Some (key_of def.fields segment) key e) (fits segment refl refl) in
       subst (FitsKey key) same its)
 
   not_held : false ≡ true → ⊥
@@ -74,7 +74,7 @@ module _ (defs : Defs) (db : Db) (own : Workspace) (f : FitsWorkspace defs db ow
   get_keeps now visible get.Unique true (Some key) fit =
       found (codes "GE") true (segment_of def now key)
       (λ segment e h.
-      let same = same_is (key_of def.fields segment) key
+      let same = same_text_is (key_of def.fields segment) key
       (found_passes (λ s. same_text (key_of def.fields s) key) now.segments segment e) in
       subst (λ (k : List ℕ). FitsKey k def) (sym same) fit)
   get_keeps now visible get.Unique true None fit = hold_ended

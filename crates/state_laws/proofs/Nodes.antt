@@ -4,7 +4,7 @@ use Rattle.std.specs.Prelude.{Contains, find, flat_map, if◌then◌else◌, pos
 use Rattle.std.specs.List.{AllByRecursion, list_all}
 use Rattle.std.specs.Option.{option_map_or}
 use Rattle.std.proofs.lemmas.List.Quantifiers.{position-Some}
-use Rattle.std.proofs.lemmas.Option.{slice_get-get_or}
+use Rattle.std.proofs.lemmas.Option.{slice_get-get_or, none-some, same_Some}
 use Rattle.std.proofs.lemmas.List.Elements.{Contains-append_left, Contains-append_right}
 use Rattle.fp_model.specs.declared.database.Node.{Node, out-Node, out-roll-Node, roll-Node}
 use Rattle.fp_model.specs.declared.database.Node.TheFolds.{fold_out-Node}
@@ -15,38 +15,22 @@ use Rattle.fp_model.specs.Shape.{Seen, are_rows, has_length, is_row, seen_as, se
 use Rattle.fp_model.specs.State.{ascend, change_key, drop_key, put_by_key}
 use Rattle.fp_model.specs.Texts.{same_text}
 use Rattle.state_laws.specs.Edits.{FitsBytes}
-use Rattle.state_laws.proofs.Areas.{contains_first, contains_later, contains_cases, contains_nothing}
-use Rattle.key_order.proofs.Ascending.{all_but, all_put, is_same, put_ascends, same_is, still_ascends}
-use Rattle.state_laws.proofs.Lists.{both_true, first_true, none_is_not_some, second_true, some_is, true_is_not_false}
+use Rattle.key_order.proofs.Ascending.{all_but, all_put, put_ascends, still_ascends}
+use Rattle.state_laws.proofs.Lists.{true_is_not_false}
+use Rattle.std.proofs.lemmas.Bool.{and_from}
+use Rattle.plain_laws.proofs.Alls.{all_of_list_all, contains_cases, contains_first, contains_later, contains_nothing, flat_map_contains, map_contains}
+use Rattle.plain_laws.proofs.Truths.{first_of_both, second_of_both, not_second}
+use Rattle.model_laws.proofs.Texts.{same_text_is, text_is_same}
 
 -- ---- tests and lists
 
-pub to_all : {X : Type 0} (p : X → Bool) (xs : List X) → list_all p xs ≡ true → AllByRecursion (λ x. p x ≡ true) xs
-to_all p [] e = tt
-to_all p (x ∷ xs) e = (first_true (p x) (list_all p xs) e, to_all p xs (second_true (p x) (list_all p xs) e))
-
 pub from_all : {X : Type 0} (p : X → Bool) (xs : List X) → AllByRecursion (λ x. p x ≡ true) xs → list_all p xs ≡ true
 from_all p [] all = refl
-from_all p (x ∷ xs) all = both_true (p x) (list_all p xs) all.0 (from_all p xs all.1)
+from_all p (x ∷ xs) all = and_from (p x) (list_all p xs) all.0 (from_all p xs all.1)
 
 pub each_contained : {X : Type 0} (P : X → Type 0) (xs : List X) → ((x : X) → Contains xs x → P x) → AllByRecursion P xs
 each_contained P [] h = tt
 each_contained P (x ∷ xs) h = (h x (contains_first x xs), each_contained P xs (λ y c. h y (contains_later x xs y c)))
-
-pub map_contains : {X Y : Type 0} (f : X → Y) (xs : List X) (x : X) → Contains xs x → Contains (map f xs) (f x)
-map_contains f [] x c = absurd (contains_nothing x c)
-map_contains f (z ∷ zs) x c = elim (contains_cases z zs x c) [
-  | inl same ↦ subst (λ q. Contains (f z ∷ map f zs) (f q)) same (contains_first (f z) (map f zs))
-  | inr there ↦ contains_later (f z) (map f zs) (f x) (map_contains f zs x there)
-]
-
-pub flat_map_contains : {X Y : Type 0} (f : X → List Y) (xs : List X) (x : X) (y : Y) → Contains xs x → Contains (f x) y
-    → Contains (flat_map f xs) y
-flat_map_contains f [] x y c d = absurd (contains_nothing x c)
-flat_map_contains f (z ∷ zs) x y c d = elim (contains_cases z zs x c) [
-  | inl same ↦ Contains-append_left (f z) (flat_map f zs) y (subst (λ q. Contains (f q) y) (sym same) d)
-  | inr there ↦ Contains-append_right (f z) (flat_map f zs) y (flat_map_contains f zs x y there d)
-]
 
 -- where nothing is found, each fails the test
 pub none_found : {X : Type 0} (p : X → Bool) (xs : List X) (x : X) → find p xs ≡ None → Contains xs x → p x ≡ false
@@ -55,13 +39,9 @@ none_found {X} p (y ∷ ys) x e c = by (p y) refl e (λ f d. none_found p ys x f
   where
     by : (b : Bool) → p y ≡ b → (if b then Some y else find p ys) ≡ None
         → (find p ys ≡ None → Contains ys x → p x ≡ false) → (y ≡ x) ⊎ Contains ys x → p x ≡ false
-    by true is e later at = absurd (none_is_not_some y (sym e))
+    by true is e later at = absurd (none-some y (sym e))
     by false is e later (inl same) = ap p (sym same) ∙ is
     by false is e later (inr there) = later e there
-
-pub not_second : (a b : Bool) → a ≡ true → (a && b) ≡ false → b ≡ false
-not_second true b is e = e
-not_second false b is e = absurd (true_is_not_false (sym is))
 
 -- ---- lists by key
 
@@ -90,7 +70,7 @@ module _ {X : Type 0} (key : X → List ℕ) (p : X → Bool) where
       where
         by : (b : Bool) → same_text (key x) k ≡ b → (p (if b then change x else x) ≡ true)
             × (key (if b then change x else x) ≡ key x)
-        by true e = h good (same_is (key x) k e)
+        by true e = h good (same_text_is (key x) k e)
         by false e = (good, refl)
 
     all_changed : (xs : List X) → AllByRecursion (Changes k change) xs → AllByRecursion (λ x. p x ≡ true) xs
@@ -157,44 +137,44 @@ module _ (types : List SegDef) where
   to_row type row e =
       let a = list_all (λ (seen : ℕ → Seen). (seen type).in_shape) (map (seen_as types) row) in
       let b = ascend (map (λ (seen : ℕ → Seen). key_in types type (seen type).bytes) (map (seen_as types) row)) in (
-        to_all (in_shape type) row (sym (all_seen type row) ∙ first_true a b e),
-        sym (ap ascend (keys_seen type row)) ∙ second_true a b e,
+        all_of_list_all (in_shape type) row (sym (all_seen type row) ∙ first_of_both a b e),
+        sym (ap ascend (keys_seen type row)) ∙ second_of_both a b e,
       )
 
   from_row : (type : ℕ) (row : List Node) → IsRow type row → is_row types type (map (seen_as types) row) ≡ true
   from_row type row good =
       let a = list_all (λ (seen : ℕ → Seen). (seen type).in_shape) (map (seen_as types) row) in
       let b = ascend (map (λ (seen : ℕ → Seen). key_in types type (seen type).bytes) (map (seen_as types) row)) in
-      both_true a b (all_seen type row ∙ from_all (in_shape type) row good.0) (ap ascend (keys_seen type row) ∙ good.1)
+      and_from a b (all_seen type row ∙ from_all (in_shape type) row good.0) (ap ascend (keys_seen type row) ∙ good.1)
 
   -- ---- rows
 
   row_in : (kinds : List ℕ) (rows : List (List Node)) (at type : ℕ) (row : List Node) → slice_get kinds at ≡ Some type
       → slice_get rows at ≡ Some row → are_rows types kinds (seen_rows rows) ≡ true → IsRow type row
-  row_in [] rows at type row kind there e = absurd (none_is_not_some type kind)
-  row_in (k ∷ ks) [] at type row kind there e = absurd (none_is_not_some row there)
+  row_in [] rows at type row kind there e = absurd (none-some type kind)
+  row_in (k ∷ ks) [] at type row kind there e = absurd (none-some row there)
   row_in (k ∷ ks) (r ∷ rs) zero type row kind there e =
-      let here = to_row k r (first_true (is_row types k (map (seen_as types) r)) (are_rows types ks (seen_rows rs)) e)
+      let here = to_row k r (first_of_both (is_row types k (map (seen_as types) r)) (are_rows types ks (seen_rows rs)) e)
       in
-      subst (λ (t : ℕ). IsRow t row) (some_is k type kind) (subst (IsRow k) (some_is r row there) here)
+      subst (λ (t : ℕ). IsRow t row) (same_Some k type kind) (subst (IsRow k) (same_Some r row there) here)
   row_in (k ∷ ks) (r ∷ rs) (suc at) type row kind there e =
-      row_in ks rs at type row kind there (second_true (is_row types k (map (seen_as types) r))
+      row_in ks rs at type row kind there (second_of_both (is_row types k (map (seen_as types) r))
       (are_rows types ks (seen_rows rs)) e)
 
   row_set : (kinds : List ℕ) (rows : List (List Node)) (at type : ℕ) (row : List Node) → slice_get kinds at ≡ Some type
       → IsRow type row → are_rows types kinds (seen_rows rows) ≡ true
       → are_rows types kinds (seen_rows (slice_set rows at row)) ≡ true
   row_set [] [] at type row kind good e = refl
-  row_set [] (r ∷ rs) at type row kind good e = absurd (none_is_not_some type kind)
+  row_set [] (r ∷ rs) at type row kind good e = absurd (none-some type kind)
   row_set (k ∷ ks) [] at type row kind good e = e
   row_set (k ∷ ks) (r ∷ rs) zero type row kind good e =
-      both_true (is_row types k (map (seen_as types) row)) (are_rows types ks (seen_rows rs))
-      (from_row k row (subst (λ (t : ℕ). IsRow t row) (sym (some_is k type kind)) good))
-      (second_true (is_row types k (map (seen_as types) r)) (are_rows types ks (seen_rows rs)) e)
+      and_from (is_row types k (map (seen_as types) row)) (are_rows types ks (seen_rows rs))
+      (from_row k row (subst (λ (t : ℕ). IsRow t row) (sym (same_Some k type kind)) good))
+      (second_of_both (is_row types k (map (seen_as types) r)) (are_rows types ks (seen_rows rs)) e)
   row_set (k ∷ ks) (r ∷ rs) (suc at) type row kind good e =
-      both_true (is_row types k (map (seen_as types) r)) (are_rows types ks (seen_rows (slice_set rs at row)))
-      (first_true (is_row types k (map (seen_as types) r)) (are_rows types ks (seen_rows rs)) e)
-      (row_set ks rs at type row kind good (second_true (is_row types k (map (seen_as types) r))
+      and_from (is_row types k (map (seen_as types) r)) (are_rows types ks (seen_rows (slice_set rs at row)))
+      (first_of_both (is_row types k (map (seen_as types) r)) (are_rows types ks (seen_rows rs)) e)
+      (row_set ks rs at type row kind good (second_of_both (is_row types k (map (seen_as types) r))
       (are_rows types ks (seen_rows rs)) e))
 
   number_is : (a b : ℕ) → (a == b) ≡ true → a ≡ b
@@ -240,12 +220,12 @@ module _ (types : List SegDef) where
   row_holds : (kinds : List ℕ) (rows : List (List Node)) (at type : ℕ) (row : List Node) (node : Node)
       (occurrence : Occurrence) → slice_get kinds at ≡ Some type → slice_get rows at ≡ Some row → Contains row node
       → Contains (node_order types node type) occurrence → Contains (rows_in_order kinds (orders rows)) occurrence
-  row_holds [] rows at type row node occurrence kind there c d = absurd (none_is_not_some type kind)
-  row_holds (k ∷ ks) [] at type row node occurrence kind there c d = absurd (none_is_not_some row there)
+  row_holds [] rows at type row node occurrence kind there c d = absurd (none-some type kind)
+  row_holds (k ∷ ks) [] at type row node occurrence kind there c d = absurd (none-some row there)
   row_holds (k ∷ ks) (r ∷ rs) zero type row node occurrence kind there c d =
-      let c2 : Contains r node = subst (λ (l : List Node). Contains l node) (sym (some_is r row there)) c in
+      let c2 : Contains r node = subst (λ (l : List Node). Contains l node) (sym (same_Some r row there)) c in
       let d2 : Contains (node_order types node k) occurrence =
-      subst (λ (t : ℕ). Contains (node_order types node t) occurrence) (sym (some_is k type kind)) d in
+      subst (λ (t : ℕ). Contains (node_order types node t) occurrence) (sym (same_Some k type kind)) d in
       Contains-append_left (flat_map (λ (child : ℕ → List Occurrence). child k) (map (node_order types) r))
       (rows_in_order ks (orders rs)) occurrence
       (flat_map_contains (λ (child : ℕ → List Occurrence). child k) (map (node_order types) r) (node_order types node)
@@ -260,8 +240,8 @@ module _ (types : List SegDef) where
   pub step_is : (type : ℕ) (key : List ℕ) (s : Step) → type ≡ s.segment → s.serial ≡ 0 → same_text key s.key ≡ true
       → same_step (direct type key) s ≡ true
   step_is type key s kind serial e =
-      both_true (type == s.segment && same_text key s.key) (0 == s.serial)
-      (both_true (type == s.segment) (same_text key s.key) (subst (λ (t : ℕ). (type == t) ≡ true) kind (is_number type))
+      and_from (type == s.segment && same_text key s.key) (0 == s.serial)
+      (and_from (type == s.segment) (same_text key s.key) (subst (λ (t : ℕ). (type == t) ≡ true) kind (is_number type))
       e)
       (subst (λ (n : ℕ). (0 == n) ≡ true) (sym serial) refl)
 
@@ -271,7 +251,7 @@ module _ (types : List SegDef) where
   other_key type key s kind serial e = by (same_text key s.key) refl
     where
       by : (b : Bool) → same_text key s.key ≡ b → b ≡ false
-      by true is = absurd (true_is_not_false (sym (both_true (same_step (direct type key) s) true
+      by true is = absurd (true_is_not_false (sym (and_from (same_step (direct type key) s) true
           (step_is type key s kind serial is) refl) ∙ e))
       by false is = refl
 
@@ -293,7 +273,7 @@ module _ (types : List SegDef) where
       let f : Node-F Node = record { bytes = bytes; children = replicate (length (child_types types s.segment)) [] } in
       let key : node_key types s.segment (roll-Node f) ≡ s.key = rolled_key s.segment f ∙ fits.1 in
       put_good (node_key types s.segment) (in_shape s.segment) (roll-Node f) row
-      (rolled_shape s.segment f ∙ both_true (has_length types s.segment bytes)
+      (rolled_shape s.segment f ∙ and_from (has_length types s.segment bytes)
       (are_rows types (child_types types s.segment)
       (seen_rows (replicate (length (child_types types s.segment)) []))) fits.0
       (empty_rows (child_types types s.segment)))
@@ -305,9 +285,9 @@ module _ (types : List SegDef) where
       (each_contained _ row (λ n c shape is.
       let f : Node-F Node = record (out-Node n) { bytes = bytes } in (
         rolled_shape s.segment f
-            ∙ both_true (has_length types s.segment bytes)
+            ∙ and_from (has_length types s.segment bytes)
             (are_rows types (child_types types s.segment) (seen_rows (out-Node n).children)) fits.0
-            (second_true (has_length types s.segment (out-Node n).bytes)
+            (second_of_both (has_length types s.segment (out-Node n).bytes)
             (are_rows types (child_types types s.segment) (seen_rows (out-Node n).children))
             (sym (shape_is s.segment n) ∙ shape)),
         rolled_key s.segment f ∙ fits.1 ∙ sym is,
@@ -349,7 +329,7 @@ module _ (types : List SegDef) where
       (contains_later (at_end (out-Node n).bytes) below occurrence d))) in
       not_second (same_step step s) (same_path occurrence.path (t ∷ ts))
       (step_is s.segment (node_key types s.segment n) s refl serial
-      (subst (λ (k : List ℕ). same_text k s.key ≡ true) (sym is) (is_same s.key)))
+      (subst (λ (k : List ℕ). same_text k s.key ≡ true) (sym is) (text_is_same s.key)))
       (free (one_down step occurrence) shown)
   free_below (Replaces bytes) parent rows s t ts at row n serial kind there c is free = tt
   free_below Deletes parent rows s t ts at row n serial kind there c is free = tt
@@ -380,9 +360,9 @@ module _ (types : List SegDef) where
       let b = are_rows types (child_types types s.segment) (seen_rows (out-Node n).children) in
       let f : Node-F Node = record (out-Node n) { children = below (out-Node n).children } in (
         rolled_shape s.segment f
-            ∙ both_true a (are_rows types (child_types types s.segment) (seen_rows (below (out-Node n).children)))
-            (first_true a b both)
+            ∙ and_from a (are_rows types (child_types types s.segment) (seen_rows (below (out-Node n).children)))
+            (first_of_both a b both)
             (below_good edit (t ∷ ts) s.segment (out-Node n).children serial.1 (fits_later edit s t ts fits)
-            (free_below edit parent rows s t ts at row n serial.0 kind there c is free) (second_true a b both)),
+            (free_below edit parent rows s t ts at row n serial.0 kind there c is free) (second_of_both a b both)),
         rolled_key s.segment f,
       ))) row_good) good

@@ -3,7 +3,7 @@ use Rattle.std.proofs.Common.{◌≡◌, ℕ, ◌+◌, ◌-◌, ◌^◌, ◌<◌
 use Rattle.std.specs.Prelude.{Contains, filter, find, if◌then◌else◌, unwrap_or}
 use Rattle.std.specs.List.{AllByRecursion, AllZip}
 use Rattle.std.specs.Option.{option_map_or}
-use Rattle.std.proofs.lemmas.Bool.{cases_eq}
+use Rattle.std.proofs.lemmas.Bool.{cases_eq, and_from}
 use Rattle.std.proofs.lemmas.Bool.Decides.{nat_tests}
 use Rattle.fp_model.specs.declared.calls.SeqInsert.{SeqInsert}
 use Rattle.fp_model.specs.declared.database.AreaEnds.{AreaEnds}
@@ -20,11 +20,14 @@ use Rattle.fp_model.specs.State.{Area, anchors_in, anchor_count, areas_of, chang
 use Rattle.state_laws.specs.Inserts.{FitsSequential, ending_at, with_sequential, with_serial}
 use Rattle.state_laws.specs.Parts.{FitsSeqInsert}
 use Rattle.state_laws.proofs.Areas.{alone, lies_in, placed}
-use Rattle.state_laws.proofs.Lists.{both_true, each_at, each_set, first_true, none_is_not_some, second_true, some_is, true_is_not_false}
-use Rattle.state_laws.proofs.Purging.{dedb_changed, ends_are, set_set}
-use Rattle.state_laws.proofs.Ranges.{get_set_other, get_set_same}
+use Rattle.state_laws.proofs.Lists.{each_at, true_is_not_false}
+use Rattle.state_laws.proofs.Purging.{dedb_changed, ends_are}
 use Rattle.state_laws.proofs.Serials.{sequential_good}
-use Rattle.state_laws.proofs.Stands.{AtArea, at_area, ends_in, ends_within, found_passes, found_there, get_there, same_area}
+use Rattle.state_laws.proofs.Stands.{AtArea, at_area, ends_in, ends_within, same_area}
+use Rattle.plain_laws.proofs.Alls.{each_set, found_is_there, found_passes}
+use Rattle.plain_laws.proofs.Truths.{first_of_both, second_of_both}
+use Rattle.plain_laws.proofs.Places.{get_other, get_set_same, get_there, set_twice}
+use Rattle.std.proofs.lemmas.Option.{none-some, same_Some}
 
 -- ---- room
 
@@ -77,7 +80,7 @@ room_left db inserts set (area ∷ areas) e =
         else first_full db inserts (set + 1) areas) ≡ None
         → (first_full db inserts (set + 1) areas ≡ None → AllByRecursion (HasRoom db inserts) areas)
         → AllByRecursion (HasRoom db inserts) (area ∷ areas)
-    by true true is too e later = absurd (none_is_not_some _ (sym e))
+    by true true is too e later = absurd (none-some _ (sym e))
     by true false is too e later =
         let a = nat_lt area.def.capacity ((ends_at db area).end - (ends_at db area).begin + count area inserts) in
         let b = nat_lt (2 ^ 62) ((ends_at db area).end + count area inserts) in (
@@ -90,7 +93,7 @@ room_left db inserts set (area ∷ areas) e =
 -- too full is all that the count finds
 pub full_is : (db : Db) (inserts : List SeqInsert) (set : ℕ) (areas : List Area) (next : Db)
     → first_full db inserts set areas ≡ Some (Commits next) → ⊥
-full_is db inserts set [] next e = none_is_not_some (Commits next) e
+full_is db inserts set [] next e = none-some (Commits next) e
 full_is db inserts set (area ∷ areas) next e =
     by (nat_lt 0 (count area inserts) && is_too_full area.def.capacity (ends_at db area) (count area inserts)) e
     (λ f. full_is db inserts (set + 1) areas next f)
@@ -111,8 +114,8 @@ module _ (defs : Defs) (db : Db) (good : IsDbOf defs db) (i : SeqInsert) (fit : 
 
   -- its database is the area's
   dedb_is : area.dedb ≡ i.dedb
-  dedb_is = number_is area.dedb i.dedb (first_true (area.dedb == i.dedb) (nat_le area.first_anchor i.anchor)
-      (first_true (area.dedb == i.dedb && nat_le area.first_anchor i.anchor)
+  dedb_is = number_is area.dedb i.dedb (first_of_both (area.dedb == i.dedb) (nat_le area.first_anchor i.anchor)
+      (first_of_both (area.dedb == i.dedb && nat_le area.first_anchor i.anchor)
       (nat_lt i.anchor (area.first_anchor + anchors_in area.def)) takes_it))
     where
       number_is : (a b : ℕ) → (a == b) ≡ true → a ≡ b
@@ -120,16 +123,16 @@ module _ (defs : Defs) (db : Db) (good : IsDbOf defs db) (i : SeqInsert) (fit : 
 
   in_area : has_anchor (alone area) 0 i.anchor ≡ true
   in_area =
-      let front = first_true (area.dedb == i.dedb && nat_le area.first_anchor i.anchor)
+      let front = first_of_both (area.dedb == i.dedb && nat_le area.first_anchor i.anchor)
       (nat_lt i.anchor (area.first_anchor + anchors_in area.def)) takes_it in
-      both_true (0 == 0 && nat_le area.first_anchor i.anchor)
+      and_from (0 == 0 && nat_le area.first_anchor i.anchor)
       (nat_lt i.anchor (area.first_anchor + anchors_in area.def))
-      (second_true (area.dedb == i.dedb) (nat_le area.first_anchor i.anchor) front)
-      (second_true (area.dedb == i.dedb && nat_le area.first_anchor i.anchor)
+      (second_of_both (area.dedb == i.dedb) (nat_le area.first_anchor i.anchor) front)
+      (second_of_both (area.dedb == i.dedb && nat_le area.first_anchor i.anchor)
       (nat_lt i.anchor (area.first_anchor + anchors_in area.def)) takes_it)
 
   def_is : fit.def ≡ its.def
-  def_is = some_is fit.def its.def
+  def_is = same_Some fit.def its.def
       (sym (subst (λ (n : ℕ). slice_get defs.dedbs n ≡ Some fit.def) (sym dedb_is) fit.defined) ∙ its.defined)
 
   -- the roots of its anchor
@@ -183,7 +186,7 @@ module _ (defs : Defs) (db : Db) (good : IsDbOf defs db) (i : SeqInsert) (fit : 
       ap (λ (n : ℕ). (with_dedb area.dedb (second ends) (with_dedb n put db)).dedbs) (sym dedb_is)
       ∙ dedb_changed area.dedb (second ends) (with_dedb area.dedb put db) (put its.dedb) there
       ∙ ap (λ (ds : List Dedb). slice_set ds area.dedb (second ends (put its.dedb))) one
-      ∙ set_set db.dedbs area.dedb (put its.dedb) (second ends (put its.dedb))
+      ∙ set_twice db.dedbs area.dedb (put its.dedb) (second ends (put its.dedb))
       ∙ ap (λ (d : Dedb). slice_set db.dedbs area.dedb d) both_are
 
   -- ---- the ends behind it
@@ -204,17 +207,17 @@ module _ (defs : Defs) (db : Db) (good : IsDbOf defs db) (i : SeqInsert) (fit : 
         let b_its = at_area defs db good b b_there in
         let at : slice_get db.dedbs area.dedb ≡ Some b_its.dedb =
         subst (λ (n : ℕ). slice_get db.dedbs n ≡ Some b_its.dedb) same b_its.now in
-        let dedb_same : b_its.dedb ≡ its.dedb = some_is b_its.dedb its.dedb (sym at ∙ its.now) in
+        let dedb_same : b_its.dedb ≡ its.dedb = same_Some b_its.dedb its.dedb (sym at ∙ its.now) in
         let b_ends : slice_get its.dedb.areas b.number ≡ Some b_its.ends =
         subst (λ (d : Dedb). slice_get d.areas b.number ≡ Some b_its.ends) dedb_same b_its.ends_now in
         let new_at : slice_get after.dedbs b.dedb ≡ Some new =
         subst (λ (n : ℕ). slice_get after.dedbs n ≡ Some new) (sym same) new_there in
         ends_in after b new b_its.ends new_at
-        (get_set_other its.dedb.areas area.number b.number (ending_at (its.ends.end + 1) its.ends) (other same)
+        (get_other its.dedb.areas area.number b.number (ending_at (its.ends.end + 1) its.ends) (other same)
         ∙ b_ends) ∙ sym b_its.ends_are
     | inr far ↦
         ap (ends_of b)
-        (ap (λ (ds : List Dedb). slice_get ds b.dedb) inserted_to ∙ get_set_other db.dedbs area.dedb b.dedb new far)
+        (ap (λ (ds : List Dedb). slice_get ds b.dedb) inserted_to ∙ get_other db.dedbs area.dedb b.dedb new far)
   ]
     where
       ends_of : Area → Option Dedb → AreaEnds
@@ -320,7 +323,7 @@ one_insert defs db i others fit has = by (find (λ area. takes area i) (areas_of
         → HasShapeAndRoom defs others (option_map_or (λ area. numbered_at defs i area db) o db)
     by None e = record { good = has.good; room = fewer }
     by (Some area) e =
-        let c = found_there (λ area. takes area i) (areas_of defs) area e in
+        let c = found_is_there (λ area. takes area i) (areas_of defs) area e in
         let t = found_passes (λ area. takes area i) (areas_of defs) area e in
         record {
           good = insert_good defs db has.good i fit area c t others (has.room area c);

@@ -4,7 +4,7 @@ use Rattle.std.specs.Prelude.{IfSome, cond, is_some, unwrap_or}
 use Rattle.std.specs.List.{AllByRecursion, position_or_len}
 use Rattle.std.specs.Option.{option_map_or}
 use Rattle.std.proofs.lemmas.List.Sums.{position_or_len_is}
-use Rattle.std.proofs.lemmas.Option.{slice_get-get_or}
+use Rattle.std.proofs.lemmas.Option.{get_or_from_slice_get, none-some, same_Some, slice_get_within}
 use Rattle.fp_model.specs.declared.calls.Ssa.{Ssa}
 use Rattle.fp_model.specs.declared.definitions.DedbDef.{DedbDef}
 use Rattle.fp_model.specs.declared.definitions.SegDef.{SegDef}
@@ -15,18 +15,19 @@ use Rattle.fp_model.specs.Shape.{has_length}
 use Rattle.fp_model.specs.Texts.{same_text}
 use Rattle.fp_model.specs.WellFormed.{HasPlace, HavePlaces}
 use Rattle.state_laws.specs.Edits.{AreDirect, FitsEnd}
-use Rattle.key_order.proofs.Ascending.{same_is}
-use Rattle.state_laws.proofs.Lists.{first_true, none_is_not_some, second_true, some_is, true_is_not_false}
-use Rattle.state_laws.proofs.Purging.{is_lt}
-use Rattle.state_laws.proofs.Stands.{get_below, get_there}
+use Rattle.state_laws.proofs.Lists.{true_is_not_false}
+use Rattle.plain_laws.proofs.Truths.{first_of_both, second_of_both}
+use Rattle.plain_laws.proofs.Places.{get_there}
+use Rattle.plain_laws.proofs.Numbers.{lt_true}
+use Rattle.model_laws.proofs.Texts.{same_text_is}
 
 -- ---- segment types
 
 pub place_at : (at n : ℕ) (types : List SegDef) (def : SegDef) → HavePlaces at types → slice_get types n ≡ Some def
     → HasPlace (at + n) def
-place_at at n [] def places e = absurd (none_is_not_some def e)
+place_at at n [] def places e = absurd (none-some def e)
 place_at at zero (d ∷ ds) def places e =
-    let here : HasPlace at def = subst (HasPlace at) (some_is d def e) places.0 in
+    let here : HasPlace at def = subst (HasPlace at) (same_Some d def e) places.0 in
     let same : at ≡ at + 0 = omega arith in
     subst (λ (k : ℕ). HasPlace k def) same here
 place_at at (suc n) (d ∷ ds) def places e =
@@ -40,9 +41,6 @@ its_place types type def places e =
     let same : 0 + type ≡ type = omega arith in
     subst (λ (k : ℕ). HasPlace k def) same (place_at 0 type types def places e)
 
-is_at : {X : Type 0} (xs : List X) (n : ℕ) (x d : X) → slice_get xs n ≡ Some x → get_or xs n d ≡ x
-is_at xs n x d e = some_is (get_or xs n d) x (sym (slice_get-get_or xs n d (get_below xs n x e)) ∙ e)
-
 -- the sequential type is the second
 module _ (types : List SegDef) (places : HavePlaces 0 types) (type : ℕ) (def : SegDef)
     (at : slice_get types type ≡ Some def) (sequential : def.sequential ≡ true) where
@@ -51,10 +49,10 @@ module _ (types : List SegDef) (places : HavePlaces 0 types) (type : ℕ) (def :
 
   none_before : (k : ℕ) → k < 1 → (get_or types k def).sequential ≡ false
   none_before k low =
-      let below : k < length types = omega (arith, low, second_type, get_below types type def at) in
+      let below : k < length types = omega (arith, low, second_type, slice_get_within types type def at) in
       let first = get_there types k below in
       let zero_place : k ≡ 0 = omega (arith, low) in
-      by first.0 first.1 (is_at types k first.0 def first.1) first.0.sequential refl zero_place
+      by first.0 first.1 (get_or_from_slice_get types k first.0 def first.1) first.0.sequential refl zero_place
     where
       by : (d : SegDef) → slice_get types k ≡ Some d → get_or types k def ≡ d → (b : Bool) → d.sequential ≡ b → k ≡ 0
           → (get_or types k def).sequential ≡ false
@@ -65,14 +63,14 @@ module _ (types : List SegDef) (places : HavePlaces 0 types) (type : ℕ) (def :
 
   found_at : position_or_len (λ (d : SegDef). d.sequential) types ≡ type
   found_at = position_or_len_is (λ (d : SegDef). d.sequential) types type def
-      (let low = get_below types type def at in omega (arith, low))
+      (let low = slice_get_within types type def at in omega (arith, low))
       (λ k low. none_before k (omega (arith, low, second_type)))
-      (λ low. ap (λ (x : SegDef). x.sequential) (is_at types type def def at) ∙ sequential)
+      (λ low. ap (λ (x : SegDef). x.sequential) (get_or_from_slice_get types type def def at) ∙ sequential)
 
   pub found_sequential : sequential_type types ≡ Some type
   found_sequential =
       ap (λ (n : ℕ). cond (nat_lt n (length types)) (Some n) None) found_at
-      ∙ ap (λ b. cond b (Some type) None) (is_lt type (length types) (get_below types type def at))
+      ∙ ap (λ b. cond b (Some type) None) (lt_true type (length types) (slice_get_within types type def at))
 
 pub sequential_found : (types : List SegDef) (type : ℕ) → HavePlaces 0 types → is_sequential types type ≡ true
     → sequential_type types ≡ Some type
@@ -86,7 +84,7 @@ sequential_found types type places e = by (slice_get types type) refl e
 -- ---- the line from the root to a type
 
 head_append : (xs ys : List ℕ) (x : ℕ) → slice_get xs 0 ≡ Some x → slice_get (xs ++ ys) 0 ≡ Some x
-head_append [] ys x e = absurd (none_is_not_some x e)
+head_append [] ys x e = absurd (none-some x e)
 head_append (z ∷ zs) ys x e = e
 
 line_begins : (n type : ℕ) (types : List SegDef) → HavePlaces 0 types → type ≤ n → type < length types
@@ -134,9 +132,9 @@ module _ (def : DedbDef) (dedb : ℕ) (bytes : List ℕ) where
   last_within : (ssas : List Ssa) → only_last_unqualified def dedb ssas ≡ true → AreFitSsas def.segments ssas
       → type_of_last def dedb ssas < length def.segments
   last_within [] e fit = absurd (true_is_not_false (sym e))
-  last_within (a ∷ []) e fit = get_below def.segments a.segment fit.0.def fit.0.named
+  last_within (a ∷ []) e fit = slice_get_within def.segments a.segment fit.0.def fit.0.named
   last_within (a ∷ b ∷ rest) e fit =
-      last_within (b ∷ rest) (second_true (is_qualified a) (only_last_unqualified def dedb (b ∷ rest)) e) fit.1
+      last_within (b ∷ rest) (second_of_both (is_qualified a) (only_last_unqualified def dedb (b ∷ rest)) e) fit.1
 
   pub ends_fit : (ssas : List Ssa) → only_last_unqualified def dedb ssas ≡ true
       → has_length def.segments (last_type 0 ssas) bytes ≡ true
@@ -150,16 +148,16 @@ module _ (def : DedbDef) (dedb : ℕ) (bytes : List ℕ) where
       by (Some key) is e =
           absurd (true_is_not_false (sym e ∙ ap (λ (o : Option (List ℕ)). not (is_some o)) is))
   ends_fit (a ∷ b ∷ rest) e long =
-      ends_fit (b ∷ rest) (second_true (is_qualified a) (only_last_unqualified def dedb (b ∷ rest)) e) long
+      ends_fit (b ∷ rest) (second_of_both (is_qualified a) (only_last_unqualified def dedb (b ∷ rest)) e) long
 
   pub insert_direct : (ssas : List Ssa) → HavePlaces 0 def.segments → AreFitSsas def.segments ssas
       → are_insert_arguments def dedb ssas ≡ true → AreDirect (insert_path def dedb ssas bytes)
   insert_direct ssas places fit e =
       let type : ℕ = type_of_last def dedb ssas in
-      let some = first_true (only_last_unqualified def dedb ssas)
+      let some = first_of_both (only_last_unqualified def dedb ssas)
       (same_text (map (λ a. a.segment) ssas) (line_to def.segments type)) e in
-      let line = same_is (map (λ a. a.segment) ssas) (line_to def.segments type)
-      (second_true (only_last_unqualified def dedb ssas)
+      let line = same_text_is (map (λ a. a.segment) ssas) (line_to def.segments type)
+      (second_of_both (only_last_unqualified def dedb ssas)
       (same_text (map (λ a. a.segment) ssas) (line_to def.segments type)) e) in
       let within = last_within ssas some fit in
       let head : slice_get (map (λ (a : Ssa). a.segment) ssas) 0 ≡ Some 0 =
@@ -170,4 +168,4 @@ module _ (def : DedbDef) (dedb : ℕ) (bytes : List ℕ) where
       begins : (ssas : List Ssa) → slice_get (map (λ (a : Ssa). a.segment) ssas) 0 ≡ Some 0
           → IfSome (slice_get (insert_path def dedb ssas bytes) 0) (λ s. s.segment ≡ 0)
       begins [] e = tt
-      begins (a ∷ rest) e = some_is a.segment 0 e
+      begins (a ∷ rest) e = same_Some a.segment 0 e

@@ -1,9 +1,8 @@
 -- A Purge: older serials leave their roots, and all else stays.
-use Rattle.std.proofs.Common.{◌≡◌, ℕ, zero, suc, ◌+◌, ◌-◌, ◌^◌, ◌<◌, ◌≤◌, List, [], ◌∷◌, ◌++◌, map, take, drop, min, Option, Some, None, refl, sym, ◌∙◌, ap, subst, Bool, true, false, ◌&&◌, ◌||◌, ◌==◌, nat_le, nat_lt, slice_get, slice_set, arith, ◌⊎◌, inl, inr}
+use Rattle.std.proofs.Common.{◌≡◌, ℕ, zero, suc, ◌+◌, ◌-◌, ◌^◌, ◌≤◌, List, [], ◌∷◌, ◌++◌, map, take, drop, min, Option, Some, None, refl, sym, ◌∙◌, ap, subst, Bool, true, false, ◌&&◌, ◌||◌, ◌==◌, nat_le, nat_lt, slice_get, slice_set, arith, ◌⊎◌, inl, inr}
 use Rattle.std.specs.Prelude.{Contains, if◌then◌else◌, filter, flat_map, option_map}
 use Rattle.std.specs.List.{AllZip, IsDistinct, list_all}
 use Rattle.std.specs.Option.{option_map_or}
-use Rattle.std.proofs.lemmas.Bool.Decides.{nat_tests}
 use Rattle.std.proofs.lemmas.List.Elements.{filter-append}
 use Rattle.fp_model.specs.declared.database.AreaEnds.{AreaEnds}
 use Rattle.fp_model.specs.declared.database.Db.{Db}
@@ -18,21 +17,15 @@ use Rattle.fp_model.specs.Exits.{anchor_of}
 use Rattle.fp_model.specs.Order.{child_types, root_key, sequential_type}
 use Rattle.fp_model.specs.Shape.{IsDbOf, IsDedbOf, are_ends, are_newest_first, are_rows, has_length, have_lengths, is_anchor, is_root, seen_as, serials_in}
 use Rattle.fp_model.specs.State.{Area, anchors_in, areas_from, areas_of, ascend, first_area_set, has_anchor}
-use Rattle.state_laws.proofs.Areas.{AreApart, alone, alone_there, database, get_contains, lies_in, lies_outside, placed, same_or_apart}
-use Rattle.state_laws.proofs.Lists.{both_true, distinct_filter, each_at, each_set, first_true, none_is_not_some, second_true, some_is}
-use Rattle.state_laws.proofs.Ranges.{get_inside, get_outside, get_set_other, get_set_same, length_changed, part_mapped, part_same}
-
-le_is : (m n : ℕ) → nat_le m n ≡ true → m ≤ n
-le_is m n e = grind (arith, nat_tests)
-
-pub is_le : (m n : ℕ) → m ≤ n → nat_le m n ≡ true
-is_le m n e = grind (arith, nat_tests)
-
-pub lt_is : (m n : ℕ) → nat_lt m n ≡ true → m < n
-lt_is m n e = grind (arith, nat_tests)
-
-pub is_lt : (m n : ℕ) → m < n → nat_lt m n ≡ true
-is_lt m n e = grind (arith, nat_tests)
+use Rattle.state_laws.proofs.Areas.{AreApart, alone, alone_there, database, lies_in, lies_outside, placed, same_or_apart}
+use Rattle.state_laws.proofs.Lists.{distinct_filter, each_at}
+use Rattle.state_laws.proofs.Ranges.{get_inside, length_changed, part_mapped, part_same}
+use Rattle.std.proofs.lemmas.Bool.{and_from}
+use Rattle.plain_laws.proofs.Alls.{each_set, get_contains}
+use Rattle.plain_laws.proofs.Truths.{first_of_both, second_of_both}
+use Rattle.plain_laws.proofs.Places.{get_other, get_outside, get_set_same, set_twice}
+use Rattle.plain_laws.proofs.Numbers.{is_le, le_is, lt_is, lt_true}
+use Rattle.std.proofs.lemmas.Option.{none-some, same_Some}
 
 -- ---- the ends
 
@@ -51,15 +44,15 @@ ends_are capacity ends e =
     let c = nat_le (ends.end - ends.begin) capacity in
     let d = nat_le ends.end (2 ^ 62) in
     let f : Bool = nat_lt 0 capacity || ends.end == 1 in
-    let abcd = first_true (((a && b) && c) && d) f e in
-    let abc = first_true ((a && b) && c) d abcd in
-    let ab = first_true (a && b) c abc in
+    let abcd = first_of_both (((a && b) && c) && d) f e in
+    let abc = first_of_both ((a && b) && c) d abcd in
+    let ab = first_of_both (a && b) c abc in
     record {
-      some = le_is 1 ends.begin (first_true a b ab);
-      order = le_is ends.begin ends.end (second_true a b ab);
-      room = le_is (ends.end - ends.begin) capacity (second_true (a && b) c abc);
-      last = le_is ends.end (2 ^ 62) (second_true ((a && b) && c) d abcd);
-      part = second_true (((a && b) && c) && d) f e;
+      some = le_is 1 ends.begin (first_of_both a b ab);
+      order = le_is ends.begin ends.end (second_of_both a b ab);
+      room = le_is (ends.end - ends.begin) capacity (second_of_both (a && b) c abc);
+      last = le_is ends.end (2 ^ 62) (second_of_both ((a && b) && c) d abcd);
+      part = second_of_both (((a && b) && c) && d) f e;
     }
 
 pub are_the_ends : (capacity : ℕ) (ends : AreaEnds) → AreEnds capacity ends → are_ends capacity ends ≡ true
@@ -69,9 +62,9 @@ are_the_ends capacity ends k =
     let c = nat_le (ends.end - ends.begin) capacity in
     let d = nat_le ends.end (2 ^ 62) in
     let f : Bool = nat_lt 0 capacity || ends.end == 1 in
-    both_true (((a && b) && c) && d) f
-    (both_true ((a && b) && c) d
-    (both_true (a && b) c (both_true a b (is_le 1 ends.begin k.some) (is_le ends.begin ends.end k.order))
+    and_from (((a && b) && c) && d) f
+    (and_from ((a && b) && c) d
+    (and_from (a && b) c (and_from a b (is_le 1 ends.begin k.some) (is_le ends.begin ends.end k.order))
     (is_le (ends.end - ends.begin) capacity k.room))
     (is_le ends.end (2 ^ 62) k.last))
     k.part
@@ -99,15 +92,15 @@ pub later_end : (begin end end2 : ℕ) (items : List SeqItem) → end ≤ end2 �
     → are_newest_first begin end2 items ≡ true
 later_end begin end end2 [] le e = refl
 later_end begin end end2 (item ∷ items) le e =
-    let front = first_true (nat_le begin item.serial && nat_lt item.serial end)
+    let front = first_of_both (nat_le begin item.serial && nat_lt item.serial end)
     (are_newest_first begin item.serial items) e in
-    let rest = second_true (nat_le begin item.serial && nat_lt item.serial end)
+    let rest = second_of_both (nat_le begin item.serial && nat_lt item.serial end)
     (are_newest_first begin item.serial items) e in
-    let less = lt_is item.serial end (second_true (nat_le begin item.serial) (nat_lt item.serial end) front) in
-    both_true (nat_le begin item.serial && nat_lt item.serial end2) (are_newest_first begin item.serial items)
-    (both_true (nat_le begin item.serial) (nat_lt item.serial end2)
-    (first_true (nat_le begin item.serial) (nat_lt item.serial end) front)
-    (is_lt item.serial end2 (omega (arith, less, le)))) rest
+    let less = lt_is item.serial end (second_of_both (nat_le begin item.serial) (nat_lt item.serial end) front) in
+    and_from (nat_le begin item.serial && nat_lt item.serial end2) (are_newest_first begin item.serial items)
+    (and_from (nat_le begin item.serial) (nat_lt item.serial end2)
+    (first_of_both (nat_le begin item.serial) (nat_lt item.serial end) front)
+    (lt_true item.serial end2 (omega (arith, less, le)))) rest
 
 module _ (begin : ℕ) where
   abbrev is_kept : SeqItem → Bool
@@ -117,27 +110,27 @@ module _ (begin : ℕ) where
       → are_newest_first begin end (filter is_kept items) ≡ true
   kept_newest old end [] e = refl
   kept_newest old end (item ∷ items) e = by (nat_le begin item.serial) refl
-      (kept_newest old item.serial items (second_true (nat_le old item.serial && nat_lt item.serial end)
+      (kept_newest old item.serial items (second_of_both (nat_le old item.serial && nat_lt item.serial end)
       (are_newest_first old item.serial items) e))
     where
       less : nat_lt item.serial end ≡ true
-      less = second_true (nat_le old item.serial) (nat_lt item.serial end)
-          (first_true (nat_le old item.serial && nat_lt item.serial end) (are_newest_first old item.serial items) e)
+      less = second_of_both (nat_le old item.serial) (nat_lt item.serial end)
+          (first_of_both (nat_le old item.serial && nat_lt item.serial end) (are_newest_first old item.serial items) e)
 
       by : (b : Bool) → nat_le begin item.serial ≡ b → are_newest_first begin item.serial (filter is_kept items) ≡ true
           → are_newest_first begin end (if b then item ∷ filter is_kept items else filter is_kept items) ≡ true
-      by true is rest = both_true (nat_le begin item.serial && nat_lt item.serial end)
+      by true is rest = and_from (nat_le begin item.serial && nat_lt item.serial end)
           (are_newest_first begin item.serial (filter is_kept items))
-          (both_true (nat_le begin item.serial) (nat_lt item.serial end) is less) rest
+          (and_from (nat_le begin item.serial) (nat_lt item.serial end) is less) rest
       by false is rest = later_end begin item.serial end (filter is_kept items)
           (let h = lt_is item.serial end less in omega (arith, h)) rest
 
   kept_all : {X : Type 0} (p q : X → Bool) (xs : List X) → list_all p xs ≡ true → list_all p (filter q xs) ≡ true
   kept_all p q [] e = refl
-  kept_all {X} p q (x ∷ xs) e = by (q x) (kept_all p q xs (second_true (p x) (list_all p xs) e))
+  kept_all {X} p q (x ∷ xs) e = by (q x) (kept_all p q xs (second_of_both (p x) (list_all p xs) e))
     where
       by : (b : Bool) → list_all p (filter q xs) ≡ true → list_all p (if b then x ∷ filter q xs else filter q xs) ≡ true
-      by true rest = both_true (p x) (list_all p (filter q xs)) (first_true (p x) (list_all p xs) e) rest
+      by true rest = and_from (p x) (list_all p (filter q xs)) (first_of_both (p x) (list_all p xs) e) rest
       by false rest = rest
 
   kept_root : (types : List SegDef) (ends : AreaEnds) (root : Root) → is_root types ends root ≡ true
@@ -147,22 +140,22 @@ module _ (begin : ℕ) where
       let b = are_rows types (child_types types 0) (map (map (seen_as types)) root.children) in
       let c = are_newest_first ends.begin ends.end root.seqs in
       let d = have_lengths types root.seqs in
-      let abc = first_true ((a && b) && c) d e in
-      both_true ((a && b) && are_newest_first begin ends.end (filter is_kept root.seqs))
+      let abc = first_of_both ((a && b) && c) d e in
+      and_from ((a && b) && are_newest_first begin ends.end (filter is_kept root.seqs))
       (have_lengths types (filter is_kept root.seqs))
-      (both_true (a && b) (are_newest_first begin ends.end (filter is_kept root.seqs)) (first_true (a && b) c abc)
-      (kept_newest ends.begin ends.end root.seqs (second_true (a && b) c abc)))
+      (and_from (a && b) (are_newest_first begin ends.end (filter is_kept root.seqs)) (first_of_both (a && b) c abc)
+      (kept_newest ends.begin ends.end root.seqs (second_of_both (a && b) c abc)))
       (kept_all (λ item. option_map_or (λ type. has_length types type item.bytes) (sequential_type types) false) is_kept
-      root.seqs (second_true ((a && b) && c) d e))
+      root.seqs (second_of_both ((a && b) && c) d e))
 
   kept_roots : (types : List SegDef) (ends : AreaEnds) (roots : List Root) → list_all (is_root types ends) roots ≡ true
       → list_all (is_root types (record ends { begin = begin })) (map (kept_from begin) roots) ≡ true
   kept_roots types ends [] e = refl
   kept_roots types ends (root ∷ roots) e =
-      both_true (is_root types (record ends { begin = begin }) (kept_from begin root))
+      and_from (is_root types (record ends { begin = begin }) (kept_from begin root))
       (list_all (is_root types (record ends { begin = begin })) (map (kept_from begin) roots))
-      (kept_root types ends root (first_true (is_root types ends root) (list_all (is_root types ends) roots) e))
-      (kept_roots types ends roots (second_true (is_root types ends root) (list_all (is_root types ends) roots) e))
+      (kept_root types ends root (first_of_both (is_root types ends root) (list_all (is_root types ends) roots) e))
+      (kept_roots types ends roots (second_of_both (is_root types ends root) (list_all (is_root types ends) roots) e))
 
   same_keys : (types : List SegDef) (roots : List Root)
       → map (root_key types) (map (kept_from begin) roots) ≡ map (root_key types) roots
@@ -183,15 +176,15 @@ module _ (begin : ℕ) where
       let a = list_all (is_root def.segments ends) roots in
       let b = ascend (map (root_key def.segments) roots) in
       let c = list_all (λ root. anchor_of def (root_key def.segments root) == anchor) roots in
-      let ab = first_true (a && b) c e in
+      let ab = first_of_both (a && b) c e in
       let kept : List Root = map (kept_from begin) roots in
       let a2 = list_all (is_root def.segments (record ends { begin = begin })) kept in
       let b2 = ascend (map (root_key def.segments) kept) in
       let c2 = list_all (λ root. anchor_of def (root_key def.segments root) == anchor) kept in
-      both_true (a2 && b2) c2
-      (both_true a2 b2 (kept_roots def.segments ends roots (first_true a b ab))
-      (ap ascend (same_keys def.segments roots) ∙ second_true a b ab))
-      (same_sent def anchor roots ∙ second_true (a && b) c e)
+      and_from (a2 && b2) c2
+      (and_from a2 b2 (kept_roots def.segments ends roots (first_of_both a b ab))
+      (ap ascend (same_keys def.segments roots) ∙ second_of_both a b ab))
+      (same_sent def anchor roots ∙ second_of_both (a && b) c e)
 
   -- ---- serials
 
@@ -240,8 +233,8 @@ purged_dedb area n ends dedb = record {
 
 mapped_from : {X Y : Type 0} (f : X → Y) (o : Option X) (y : Y) → option_map f o ≡ Some y → (x : X) × (o ≡ Some x)
     × (f x ≡ y)
-mapped_from f None y e = absurd (none_is_not_some y e)
-mapped_from f (Some x) y e = (x, refl, some_is (f x) y e)
+mapped_from f None y e = absurd (none-some y e)
+mapped_from f (Some x) y e = (x, refl, same_Some (f x) y e)
 
 module _ (def : DedbDef) (dedb : Dedb) (good : IsDedbOf def dedb) (area : Area)
     (there : Contains (areas_from 0 0 0 def.areas) area) (n : ℕ) (ends : AreaEnds)
@@ -277,7 +270,7 @@ module _ (def : DedbDef) (dedb : Dedb) (good : IsDedbOf def dedb) (area : Area)
           let new : slice_get (slice_set dedb.areas area.number (moved_up n ends)) area.number ≡ Some ends2 =
           subst (λ (x : Area). slice_get (slice_set dedb.areas area.number (moved_up n ends)) x.number ≡ Some ends2)
           (sym same) b_at in
-          let ends_is : moved_up n ends ≡ ends2 = some_is (moved_up n ends) ends2
+          let ends_is : moved_up n ends ≡ ends2 = same_Some (moved_up n ends) ends2
           (sym (get_set_same dedb.areas area.number (moved_up n ends) ends at) ∙ new) in
           subst (λ (x : AreaEnds). is_anchor def anchor x roots ≡ true) ends_is
           (subst (λ (rs : List Root). is_anchor def anchor (moved_up n ends) rs ≡ true) old.2
@@ -286,7 +279,7 @@ module _ (def : DedbDef) (dedb : Dedb) (good : IsDedbOf def dedb) (area : Area)
       by (inr apart) =
           let outside = lies_outside area b anchor apart (lies_in b 0 anchor has) in
           good.each_anchor b ends2 anchor roots b_there
-          (sym (get_set_other dedb.areas area.number b.number (moved_up n ends) (λ e. apart.numbers (sym e))) ∙ b_at)
+          (sym (get_other dedb.areas area.number b.number (moved_up n ends) (λ e. apart.numbers (sym e))) ∙ b_at)
           has
           (sym (get_outside area.first_anchor (anchors_in area.def) (area.first_anchor + anchors_in area.def)
           (map (kept_from (moved_up n ends).begin)) dedb.anchors anchor refl outside) ∙ is)
@@ -336,7 +329,7 @@ module _ (def : DedbDef) (dedb : Dedb) (good : IsDedbOf def dedb) (area : Area)
 -- the partner of an element
 pub partner : {A B : Type 0} (R : A → B → Type 0) (xs : List A) (ys : List B) (n : ℕ) (x : A) → AllZip R xs ys
     → slice_get xs n ≡ Some x → (y : B) × (slice_get ys n ≡ Some y)
-partner R [] ys n x all at = absurd (none_is_not_some x at)
+partner R [] ys n x all at = absurd (none-some x at)
 partner R (a ∷ xs) [] n x all at = absurd all
 partner R (a ∷ xs) (b ∷ ys) zero x all at = (b, refl)
 partner R (a ∷ xs) (b ∷ ys) (suc n) x all at = partner R xs ys n x all.1 at
@@ -345,11 +338,6 @@ partner R (a ∷ xs) (b ∷ ys) (suc n) x all at = partner R xs ys n x all.1 at
 pub dedb_changed : (number : ℕ) (change : Dedb → Dedb) (db : Db) (d : Dedb) → slice_get db.dedbs number ≡ Some d
     → (with_dedb number change db).dedbs ≡ slice_set db.dedbs number (change d)
 dedb_changed number change db d at = rw at refl
-
-pub set_set : {X : Type 0} (xs : List X) (n : ℕ) (x y : X) → slice_set (slice_set xs n x) n y ≡ slice_set xs n y
-set_set [] n x y = refl
-set_set (z ∷ zs) zero x y = refl
-set_set (z ∷ zs) (suc n) x y = ap (λ ws. z ∷ ws) (set_set zs n x y)
 
 module _ (defs : Defs) (db : Db) (good : IsDbOf defs db) where
   area_purged : (area : Area) (n : ℕ) → Contains (areas_of defs) area → IsDbOf defs (purged_area area n db)
@@ -391,7 +379,7 @@ module _ (defs : Defs) (db : Db) (good : IsDbOf defs db) where
           ap (λ (ds : List Dedb). slice_get ds area.dedb) one ∙ get_set_same db.dedbs area.dedb (first d) d at in
           dedb_changed area.dedb second (with_dedb area.dedb first db) (first d) there
           ∙ ap (λ (ds : List Dedb). slice_set ds area.dedb (second (first d))) one
-          ∙ set_set db.dedbs area.dedb (first d) (second (first d))
+          ∙ set_twice db.dedbs area.dedb (first d) (second (first d))
           ∙ ap (λ (x : AreaEnds). slice_set db.dedbs area.dedb (purged_dedb (alone area) n x d)) is
 
   pub purge_good : (set n : ℕ) (next : Db) → purged defs set n db ≡ Some next → IsDbOf defs next
@@ -400,16 +388,16 @@ module _ (defs : Defs) (db : Db) (good : IsDbOf defs db) where
     where
       in_order : (b : Bool) (area : Area) → (if b then None else slice_get (areas_of defs) (set - first_area_set)) ≡
           Some area → Contains (areas_of defs) area
-      in_order true area at = absurd (none_is_not_some area at)
+      in_order true area at = absurd (none-some area at)
       in_order false area at = get_contains (areas_of defs) (set - first_area_set) area at
 
       either : (b : Bool) (area : Area) → Contains (areas_of defs) area
           → (if b then Some (purged_area area n db) else None) ≡ Some next → IsDbOf defs next
-      either true area c e = subst (IsDbOf defs) (some_is (purged_area area n db) next e) (area_purged area n c)
-      either false area c e = absurd (none_is_not_some next e)
+      either true area c e = subst (IsDbOf defs) (same_Some (purged_area area n db) next e) (area_purged area n c)
+      either false area c e = absurd (none-some next e)
 
       by : (o : Option Area) → area_of_set defs set ≡ o
           → option_map_or (λ area. if nat_lt 0 area.def.capacity then Some (purged_area area n db) else None) o None ≡
           Some next → IsDbOf defs next
-      by None is e = absurd (none_is_not_some next e)
+      by None is e = absurd (none-some next e)
       by (Some area) is e = either (nat_lt 0 area.def.capacity) area (in_order (nat_lt set first_area_set) area is) e

@@ -1,46 +1,24 @@
 -- A part of a list by its place and length, and a list with a part changed.
-use Rattle.std.proofs.Common.{◌≡◌, ℕ, zero, suc, ◌+◌, ◌<◌, ◌≤◌, List, [], ◌∷◌, ◌++◌, map, length, take, drop, Option, Some, None, refl, sym, ◌∙◌, ap, slice_get, slice_set, arith, ◌⊎◌, inl, inr, length-append, length-drop}
+use Rattle.std.proofs.Common.{◌≡◌, ℕ, zero, suc, ◌+◌, ◌<◌, ◌≤◌, List, [], ◌∷◌, ◌++◌, map, length, take, drop, Option, Some, None, refl, sym, ◌∙◌, ap, slice_get, arith, length-append, length-drop}
 use Rattle.std.specs.Prelude.{option_map}
 use Rattle.std.proofs.lemmas.List.{length-take, length-map}
-use Rattle.state_laws.proofs.Lists.{some_is, none_is_not_some}
+use Rattle.plain_laws.proofs.Lists.{drop_nil}
+use Rattle.std.proofs.lemmas.Option.{none-some, same_Some}
 
 -- ---- elements at a place
 
-pub get_set_other : {X : Type 0} (xs : List X) (r s : ℕ) (a : X) → ¬ (s ≡ r)
-    → slice_get (slice_set xs r a) s ≡ slice_get xs s
-get_set_other [] r s a ne = refl
-get_set_other (x ∷ xs) zero zero a ne = absurd (ne refl)
-get_set_other (x ∷ xs) zero (suc s) a ne = refl
-get_set_other (x ∷ xs) (suc r) zero a ne = refl
-get_set_other (x ∷ xs) (suc r) (suc s) a ne = get_set_other xs r s a (λ e. ne (ap (λ (n : ℕ). suc n) e))
-
-pub get_set_same : {X : Type 0} (xs : List X) (r : ℕ) (a x : X) → slice_get xs r ≡ Some x
-    → slice_get (slice_set xs r a) r ≡ Some a
-get_set_same [] r a x e = absurd (none_is_not_some x e)
-get_set_same (y ∷ ys) zero a x e = refl
-get_set_same (y ∷ ys) (suc r) a x e = get_set_same ys r a x e
-
-pub length_set : {X : Type 0} (xs : List X) (r : ℕ) (a : X) → length (slice_set xs r a) ≡ length xs
-length_set [] r a = refl
-length_set (x ∷ xs) zero a = refl
-length_set (x ∷ xs) (suc r) a = ap suc (length_set xs r a)
-
 -- ---- parts
-
-drop_nothing : {X : Type 0} (n : ℕ) → drop {A = X} n [] ≡ []
-drop_nothing zero = refl
-drop_nothing (suc n) = refl
 
 module _ {X Y : Type 0} (c : X → Y) where
   front_mapped : (n : ℕ) (xs : List X) (ys : List Y)
       → ((k : ℕ) → k < n → slice_get ys k ≡ option_map c (slice_get xs k)) → take n ys ≡ map c (take n xs)
   front_mapped zero xs ys h = refl
   front_mapped (suc n) [] [] h = refl
-  front_mapped (suc n) [] (y ∷ ys) h = absurd (none_is_not_some y (sym (h 0 (omega arith))))
-  front_mapped (suc n) (x ∷ xs) [] h = absurd (none_is_not_some (c x) (h 0 (omega arith)))
+  front_mapped (suc n) [] (y ∷ ys) h = absurd (none-some y (sym (h 0 (omega arith))))
+  front_mapped (suc n) (x ∷ xs) [] h = absurd (none-some (c x) (h 0 (omega arith)))
   front_mapped (suc n) (x ∷ xs) (y ∷ ys) h =
       let rest = front_mapped n xs ys (λ k low. h (suc k) (omega (arith, low))) in
-      ap (λ (z : Y). z ∷ take n ys) (some_is y (c x) (h 0 (omega arith))) ∙ ap (λ (zs : List Y). c x ∷ zs) rest
+      ap (λ (z : Y). z ∷ take n ys) (same_Some y (c x) (h 0 (omega arith))) ∙ ap (λ (zs : List Y). c x ∷ zs) rest
 
   -- a part whose elements are the images of those of another list
   pub part_mapped : (n first : ℕ) (xs : List X) (ys : List Y)
@@ -50,9 +28,9 @@ module _ {X Y : Type 0} (c : X → Y) where
   part_mapped n (suc first) [] [] h = front_mapped n [] [] (λ k low. refl)
   part_mapped n (suc first) [] (y ∷ ys) h =
       part_mapped n first [] ys (λ k low high. h (suc k) (omega (arith, low)) (omega (arith, high))) ∙ ap
-      (λ (zs : List X). map c (take n zs)) (drop_nothing first)
+      (λ (zs : List X). map c (take n zs)) (drop_nil first)
   part_mapped n (suc first) (x ∷ xs) [] h =
-      sym (ap (λ (zs : List Y). take n zs) (drop_nothing first)) ∙ part_mapped n first xs []
+      sym (ap (λ (zs : List Y). take n zs) (drop_nil first)) ∙ part_mapped n first xs []
       (λ k low high. h (suc k) (omega (arith, low)) (omega (arith, high)))
   part_mapped n (suc first) (x ∷ xs) (y ∷ ys) h = part_mapped n first xs ys
       (λ k low high. h (suc k) (omega (arith, low)) (omega (arith, high)))
@@ -73,33 +51,6 @@ part_same n first xs ys h = part_mapped (λ x. x) n first xs ys
     (λ k low high. h k low high ∙ same_option (slice_get xs k)) ∙ same_mapped (take n (drop first xs))
 
 -- ---- a list with a part changed
-
--- an element outside
-pub get_outside : {X : Type 0} (first n end : ℕ) (change : X → X) (xs : List X) (a : ℕ) → end ≡ first + n → (a < first)
-    ⊎ (end ≤ a)
-    → slice_get (take first xs ++ map change (take n (drop first xs)) ++ drop end xs) a ≡ slice_get xs a
-get_outside zero n end change xs a is (inl below) = absurd (omega (arith, below))
-get_outside {X} zero n end change xs a is (inr behind) = behind_those n end xs a (omega (arith, is)) behind
-  where
-    behind_those : (n end : ℕ) (xs : List X) (a : ℕ) → end ≡ n → end ≤ a
-        → slice_get (map change (take n xs) ++ drop end xs) a ≡ slice_get xs a
-    behind_those zero zero xs a is le = refl
-    behind_those zero (suc end) xs a is le = absurd (omega (arith, is))
-    behind_those (suc n) zero xs a is le = absurd (omega (arith, is))
-    behind_those (suc n) (suc end) [] a is le = refl
-    behind_those (suc n) (suc end) (x ∷ xs) zero is le = absurd (omega (arith, le))
-    behind_those (suc n) (suc end) (x ∷ xs) (suc a) is le =
-        behind_those n end xs a (omega (arith, is)) (omega (arith, le))
-get_outside (suc first) n zero change xs a is h = absurd (omega (arith, is))
-get_outside (suc first) zero (suc end) change [] a is h = refl
-get_outside (suc first) (suc n) (suc end) change [] a is h = refl
-get_outside (suc first) n (suc end) change (x ∷ xs) zero is h = refl
-get_outside (suc first) n (suc end) change (x ∷ xs) (suc a) is h =
-    get_outside first n end change xs a (omega (arith, is)) (less h)
-  where
-    less : (suc a < suc first) ⊎ (suc end ≤ suc a) → (a < first) ⊎ (end ≤ a)
-    less (inl below) = inl (omega (arith, below))
-    less (inr behind) = inr (omega (arith, behind))
 
 -- an element inside
 pub get_inside : {X : Type 0} (first n end : ℕ) (change : X → X) (xs : List X) (a : ℕ) → end ≡ first + n → first ≤ a

@@ -13,29 +13,31 @@ use Rattle.fp_model.specs.Shape.{are_newest_first, are_rows, has_length, have_le
 use Rattle.fp_model.specs.State.{ascend}
 use Rattle.fp_model.specs.Texts.{same_text}
 use Rattle.state_laws.specs.Edits.{FitsBytes, FitsEdit, IsNew}
-use Rattle.state_laws.proofs.Areas.{contains_first}
-use Rattle.key_order.proofs.Ascending.{is_same}
-use Rattle.state_laws.proofs.Lists.{both_true, first_true, none_is_not_some, second_true}
-use Rattle.state_laws.proofs.Nodes.{IsFree, IsGood, below_good, change_good, drop_good, each_contained, empty_rows, fits_later, flat_map_contains, from_all, map_contains, none_found, not_second, other_key, put_good, step_is, to_all, is_number}
+use Rattle.state_laws.proofs.Nodes.{IsFree, IsGood, below_good, change_good, drop_good, each_contained, empty_rows, fits_later, from_all, none_found, other_key, put_good, step_is, is_number}
+use Rattle.std.proofs.lemmas.Bool.{and_from}
+use Rattle.plain_laws.proofs.Alls.{all_of_list_all, contains_first, flat_map_contains, map_contains}
+use Rattle.plain_laws.proofs.Truths.{first_of_both, second_of_both, not_second}
+use Rattle.model_laws.proofs.Texts.{text_is_same}
+use Rattle.std.proofs.lemmas.Option.{none-some}
 
 both_all : {X : Type 0} (p q : X → Bool) (xs : List X) → AllByRecursion (λ x. p x ≡ true) xs
     → AllByRecursion (λ x. q x ≡ true) xs → AllByRecursion (λ x. (p x && q x) ≡ true) xs
 both_all p q [] a b = tt
-both_all p q (x ∷ xs) a b = (both_true (p x) (q x) a.0 b.0, both_all p q xs a.1 b.1)
+both_all p q (x ∷ xs) a b = (and_from (p x) (q x) a.0 b.0, both_all p q xs a.1 b.1)
 
 first_all : {X : Type 0} (p q : X → Bool) (xs : List X) → AllByRecursion (λ x. (p x && q x) ≡ true) xs
     → AllByRecursion (λ x. p x ≡ true) xs
 first_all p q [] a = tt
-first_all p q (x ∷ xs) a = (first_true (p x) (q x) a.0, first_all p q xs a.1)
+first_all p q (x ∷ xs) a = (first_of_both (p x) (q x) a.0, first_all p q xs a.1)
 
 second_all : {X : Type 0} (p q : X → Bool) (xs : List X) → AllByRecursion (λ x. (p x && q x) ≡ true) xs
     → AllByRecursion (λ x. q x ≡ true) xs
 second_all p q [] a = tt
-second_all p q (x ∷ xs) a = (second_true (p x) (q x) a.0, second_all p q xs a.1)
+second_all p q (x ∷ xs) a = (second_of_both (p x) (q x) a.0, second_all p q xs a.1)
 
 found_nothing : (o : Option Occurrence) → option_map_or (λ (s : Occurrence). Some s.bytes) o None ≡ None → o ≡ None
 found_nothing None e = refl
-found_nothing (Some s) e = absurd (none_is_not_some s.bytes (sym e))
+found_nothing (Some s) e = absurd (none-some s.bytes (sym e))
 
 module _ (def : DedbDef) (anchor : ℕ) (ends : AreaEnds) where
   abbrev sent : Root → Bool
@@ -52,10 +54,10 @@ module _ (def : DedbDef) (anchor : ℕ) (ends : AreaEnds) where
       let a = list_all (is_root def.segments ends) roots in
       let b = ascend (map (root_key def.segments) roots) in
       let c = list_all sent roots in
-      let ab = first_true (a && b) c e in (
-        both_all (is_root def.segments ends) sent roots (to_all (is_root def.segments ends) roots (first_true a b ab))
-            (to_all sent roots (second_true (a && b) c e)),
-        second_true a b ab,
+      let ab = first_of_both (a && b) c e in (
+        both_all (is_root def.segments ends) sent roots (all_of_list_all (is_root def.segments ends) roots (first_of_both a b ab))
+            (all_of_list_all sent roots (second_of_both (a && b) c e)),
+        second_of_both a b ab,
       )
 
   pub from_good : (roots : List Root) → AreGood roots → is_anchor def anchor ends roots ≡ true
@@ -63,7 +65,7 @@ module _ (def : DedbDef) (anchor : ℕ) (ends : AreaEnds) where
       let a = list_all (is_root def.segments ends) roots in
       let b = ascend (map (root_key def.segments) roots) in
       let c = list_all sent roots in
-      both_true (a && b) c (both_true a b (from_all (is_root def.segments ends) roots
+      and_from (a && b) c (and_from a b (from_all (is_root def.segments ends) roots
       (first_all (is_root def.segments ends) sent roots good.0)) good.1)
       (from_all sent roots (second_all (is_root def.segments ends) sent roots good.0))
 
@@ -82,16 +84,16 @@ module _ (def : DedbDef) (anchor : ℕ) (ends : AreaEnds) where
       let b = are_rows def.segments (child_types def.segments 0) (map (map (seen_as def.segments)) root.children) in
       let c = are_newest_first ends.begin ends.end root.seqs in
       let d = have_lengths def.segments root.seqs in
-      let abcd = first_true (((a && b) && c) && d) (sent root) e in
-      let abc = first_true ((a && b) && c) d abcd in
-      let ab = first_true (a && b) c abc in
+      let abcd = first_of_both (((a && b) && c) && d) (sent root) e in
+      let abc = first_of_both ((a && b) && c) d abcd in
+      let ab = first_of_both (a && b) c abc in
       record {
-        long = first_true a b ab;
-        rows = second_true a b ab;
-        newest = second_true (a && b) c abc;
+        long = first_of_both a b ab;
+        rows = second_of_both a b ab;
+        newest = second_of_both (a && b) c abc;
         lengths =
-            second_true ((a && b) && c) d abcd;
-        here = second_true (((a && b) && c) && d) (sent root) e;
+            second_of_both ((a && b) && c) d abcd;
+        here = second_of_both (((a && b) && c) && d) (sent root) e;
       }
 
   pub of_parts : (root : Root) → IsWhole root → passes root ≡ true
@@ -100,8 +102,8 @@ module _ (def : DedbDef) (anchor : ℕ) (ends : AreaEnds) where
       let b = are_rows def.segments (child_types def.segments 0) (map (map (seen_as def.segments)) root.children) in
       let c = are_newest_first ends.begin ends.end root.seqs in
       let d = have_lengths def.segments root.seqs in
-      both_true (((a && b) && c) && d) (sent root) (both_true ((a && b) && c) d
-      (both_true (a && b) c (both_true a b k.long k.rows) k.newest) k.lengths) k.here
+      and_from (((a && b) && c) && d) (sent root) (and_from ((a && b) && c) d
+      (and_from (a && b) c (and_from a b k.long k.rows) k.newest) k.lengths) k.here
 
   -- ---- what is inserted isn't there
 
@@ -142,7 +144,7 @@ module _ (def : DedbDef) (anchor : ℕ) (ends : AreaEnds) where
       map_contains (one_down step) (front ++ below) occurrence (Contains-append_right front below occurrence d) in
       not_second (same_step step s) (same_path occurrence.path (t ∷ ts))
       (step_is def.segments 0 (root_key def.segments r) s (sym kind) serial
-      (subst (λ (k : List ℕ). same_text k s.key ≡ true) (sym is) (is_same s.key)))
+      (subst (λ (k : List ℕ). same_text k s.key ≡ true) (sym is) (text_is_same s.key)))
       (free (one_down step occurrence) (flat_map_contains (root_order def.segments) roots r (one_down step occurrence) c
       shown))
   free_root (Replaces bytes) roots s t ts r kind serial c is free = tt

@@ -21,12 +21,16 @@ use Rattle.state_laws.specs.Edits.{AreDirect, FitsBytes, FitsEdit}
 use Rattle.state_laws.specs.Parts.{FitsAnchorChange}
 use Rattle.state_laws.specs.Workspaces.{ChangeMayStand, MayStand}
 use Rattle.state_laws.proofs.Areas.{placed}
-use Rattle.key_order.proofs.Ascending.{all_but, all_put, same_is}
-use Rattle.state_laws.proofs.Lists.{first_true, found_has, second_true, some_is}
+use Rattle.key_order.proofs.Ascending.{all_but, all_put}
+use Rattle.state_laws.proofs.Lists.{found_has}
 use Rattle.state_laws.proofs.Nodes.{each_contained}
 use Rattle.state_laws.proofs.Purging.{partner}
 use Rattle.state_laws.proofs.Roots.{edited_good, to_good}
-use Rattle.state_laws.proofs.Stands.{area_of_anchor, found_passes, get_below}
+use Rattle.state_laws.proofs.Stands.{area_of_anchor}
+use Rattle.plain_laws.proofs.Truths.{first_of_both, second_of_both}
+use Rattle.plain_laws.proofs.Alls.{found_passes}
+use Rattle.std.proofs.lemmas.Option.{same_Some, slice_get_within}
+use Rattle.model_laws.proofs.Texts.{same_text_is}
 
 -- keys ascend where roots may stand
 pub keys_ascend : (def : DedbDef) (anchor : ℕ) (roots : List Root) → MayStand def anchor roots
@@ -65,7 +69,7 @@ module _ (def : DedbDef) (now : List Root) where
   kept_changed k change keeps (r ∷ rs) all = (by (same_text (key r) k) refl, kept_changed k change keeps rs all.1)
     where
       by : (b : Bool) → same_text (key r) k ≡ b → IsKept (if b then change r else r)
-      by true e = let its = keeps r (same_is (key r) k e) in still_kept r (change r) its.0 its.1 all.0
+      by true e = let its = keeps r (same_text_is (key r) k e) in still_kept r (change r) its.0 its.1 all.0
       by false e = all.0
 
   root_kept : (edit : Edit) (s : Step) (roots : List Root) → s.segment ≡ 0 → FitsBytes def.segments (s ∷ []) edit
@@ -126,7 +130,7 @@ module _ (def : DedbDef) (dedb : Dedb) (good : IsDedbOf def dedb) (anchor : ℕ)
       by : (o : Option (List Root)) → slice_get dedb.anchors anchor ≡ o → MayStand def anchor (stand_at o)
       by None e = none_may_stand def anchor
       by (Some roots) e =
-          let low = get_below dedb.anchors anchor roots e in
+          let low = slice_get_within dedb.anchors anchor roots e in
           let long : length dedb.anchors ≡ anchor_count def = good.anchors in
           let its = area_of_anchor 0 0 0 def.areas anchor (omega arith) (omega (arith, low, long)) in
           let p = placed 0 0 0 def.areas its.area its.there in
@@ -166,14 +170,14 @@ module _ (defs : Defs) (db : Db) (own : Workspace) (changes : AllByRecursion (Fi
   seen_at : (c : AnchorChange) → is_change_of def number anchor c ≡ true → FitsAnchorChange defs db c
       → ChangeMayStand defs c → AreSeen def dedb anchor c.roots
   seen_at c e fit may =
-      let dedb_is = number_is c.dedb number (first_true (c.dedb == number) (c.anchor == anchor) e) in
-      let anchor_is = number_is c.anchor anchor (second_true (c.dedb == number) (c.anchor == anchor) e) in
+      let dedb_is = number_is c.dedb number (first_of_both (c.dedb == number) (c.anchor == anchor) e) in
+      let anchor_is = number_is c.anchor anchor (second_of_both (c.dedb == number) (c.anchor == anchor) e) in
       let defined2 : slice_get defs.dedbs c.dedb ≡ Some def =
       subst (λ (n : ℕ). slice_get defs.dedbs n ≡ Some def) (sym dedb_is) defined in
       let now2 : slice_get db.dedbs c.dedb ≡ Some dedb =
       subst (λ (n : ℕ). slice_get db.dedbs n ≡ Some dedb) (sym dedb_is) now in
-      let def_is : fit.def ≡ def = some_is fit.def def (sym fit.defined ∙ defined2) in
-      let dedb_same : fit.dedb ≡ dedb = some_is fit.dedb dedb (sym fit.now ∙ now2) in
+      let def_is : fit.def ≡ def = same_Some fit.def def (sym fit.defined ∙ defined2) in
+      let dedb_same : fit.dedb ≡ dedb = same_Some fit.dedb dedb (sym fit.now ∙ now2) in
       let one : FitsChange def fit.dedb c.anchor c.roots =
       subst (λ (d : DedbDef). FitsChange d fit.dedb c.anchor c.roots) def_is fit.fits in
       let two : FitsChange def dedb c.anchor c.roots =

@@ -3,8 +3,6 @@ use Rattle.std.proofs.Common.{◌≡◌, ℕ, List, [], ◌∷◌, ◌++◌, map
 use Rattle.std.specs.Prelude.{IfSome, flat_map}
 use Rattle.std.specs.List.{AllByRecursion, list_all}
 use Rattle.std.specs.Option.{option_map_or}
-use Rattle.std.proofs.lemmas.List.Quantifiers.{position-Some}
-use Rattle.std.proofs.lemmas.Option.{slice_get-get_or}
 use Rattle.fp_model.specs.declared.database.AreaEnds.{AreaEnds}
 use Rattle.fp_model.specs.declared.database.Node.{Node, map-Node, roll-Node}
 use Rattle.fp_model.specs.declared.database.Node.TheFolds.{fold-roll-Node, ind-Node}
@@ -17,15 +15,13 @@ use Rattle.fp_model.specs.DedbCalls.{end_of, type_of_path}
 use Rattle.fp_model.specs.Order.{Occurrence, Step, at_end, child_types, dependent, direct, is_sequential, key_in, node_order, node_step, one_down, root_order, rows_in_order, sequence, sequential_type, sequentials, under}
 use Rattle.fp_model.specs.Shape.{Seen, are_rows, has_length, have_lengths, is_anchor, is_row, seen_as, seen_step}
 use Rattle.fp_model.specs.State.{ascend}
-use Rattle.state_laws.proofs.Lists.{first_true, none_is_not_some, second_true, true_is_not_false}
+use Rattle.state_laws.proofs.Lists.{true_is_not_false}
 use Rattle.state_laws.proofs.Roots.{IsWhole, passes, to_good, whole}
+use Rattle.plain_laws.proofs.Alls.{all_append}
+use Rattle.plain_laws.proofs.Truths.{first_of_both, second_of_both}
+use Rattle.model_laws.proofs.Layouts.{sequential_is}
 
 -- ---- lists
-
-pub all_append : {X : Type 0} (P : X → Type 0) (xs ys : List X) → AllByRecursion P xs → AllByRecursion P ys
-    → AllByRecursion P (xs ++ ys)
-all_append P [] ys all others = others
-all_append P (x ∷ xs) ys all others = (all.0, all_append P xs ys all.1 others)
 
 -- ---- nodes
 
@@ -60,7 +56,7 @@ module _ (types : List SegDef) where
       let b = list_all (λ (seen : ℕ → Seen). (seen type).in_shape) (map (seen_as types) row) in
       all_append (IsBelow above) (node_order types n type)
       (flat_map (λ (child : ℕ → List Occurrence). child type) (map (node_order types) row))
-      (all.0 type above (first_true a b e)) (row_shows type above row all.1 (second_true a b e))
+      (all.0 type above (first_of_both a b e)) (row_shows type above row all.1 (second_of_both a b e))
 
   rows_show : (above : ℕ) (kinds : List ℕ) (rows : List (List Node))
       → AllByRecursion (λ row. AllByRecursion ShowsWhole row) rows
@@ -77,8 +73,8 @@ module _ (types : List SegDef) where
       all_append (IsBelow above)
       (flat_map (λ (child : ℕ → List Occurrence). child type) (map (node_order types) row))
       (rows_in_order kinds (map (map (node_order types)) rows))
-      (row_shows type above row all.0 (first_true shapes keys (first_true here rest e)))
-      (rows_show above kinds rows all.1 (second_true here rest e))
+      (row_shows type above row all.0 (first_of_both shapes keys (first_of_both here rest e)))
+      (rows_show above kinds rows all.1 (second_of_both here rest e))
 
   nodes_of : (row : List ((n : Node) × ShowsWhole n)) → AllByRecursion ShowsWhole (map (λ e. e.0) row)
   nodes_of [] = tt
@@ -102,8 +98,8 @@ module _ (types : List SegDef) where
       (sym (ap (λ (order : ℕ → List Occurrence). order type)
       (fold-roll-Node (ℕ → List Occurrence) (node_step types) f)))
       (below_step type above (key_in types type y.bytes) (at_end y.bytes ∷ below) (
-        (tt, first_true a b shape),
-        rows_show type (child_types types type) rows (rows_of y.children) (second_true a b shape),
+        (tt, first_of_both a b shape),
+        rows_show type (child_types types type) rows (rows_of y.children) (second_of_both a b shape),
       ))
 
   node_shows : (n : Node) → ShowsWhole n
@@ -118,15 +114,6 @@ module _ (types : List SegDef) where
   all_show (row ∷ rows) = (each_shows row, all_show rows)
 
 -- ---- roots
-
--- the sequential type is one
-pub sequential_is : (types : List SegDef) (type : ℕ) → sequential_type types ≡ Some type
-    → is_sequential types type ≡ true
-sequential_is [] type e = absurd (none_is_not_some type e)
-sequential_is (def ∷ defs) type e =
-    let f = position-Some (λ (d : SegDef). d.sequential) (def ∷ defs) type def e in
-    ap (λ (o : Option SegDef). option_map_or (λ (d : SegDef). d.sequential) o false)
-    (slice_get-get_or (def ∷ defs) type def f.0) ∙ f.1
 
 -- A segment of an anchor: its path begins at a root, by direct steps unless it is sequential, and it is as long as its
 -- type says.
@@ -164,13 +151,13 @@ module _ (def : DedbDef) (dedb : ℕ) where
       let a = option_map_or (λ (t : ℕ). has_length types t item.bytes) (sequential_type types) false in
       let long : has_length types type item.bytes ≡ true =
       subst (λ (o : Option ℕ). option_map_or (λ (t : ℕ). has_length types t item.bytes) o false ≡ true) kind
-      (first_true a (have_lengths types items) e) in (
+      (first_of_both a (have_lengths types items) e) in (
         record {
           begins = refl;
           direct = λ none. absurd (true_is_not_false (sym (sequential_is types type kind) ∙ none));
           long = long;
         },
-        sequential_shown key type items kind (second_true a (have_lengths types items) e),
+        sequential_shown key type items kind (second_of_both a (have_lengths types items) e),
       )
 
   sequentials_shown : (key : List ℕ) (items : List SeqItem) → have_lengths types items ≡ true

@@ -2,7 +2,7 @@
 use Rattle.std.proofs.Common.{◌≡◌, ℕ, zero, suc, ◌+◌, ◌<◌, ◌≤◌, List, [], ◌∷◌, map, take, drop, Some, refl, sym, ◌∙◌, ap, subst, Bool, true, false, ◌&&◌, ◌||◌, ◌==◌, nat_le, nat_lt, slice_get, slice_set, arith, ◌⊎◌, inl, inr}
 use Rattle.std.specs.Prelude.{Contains, flat_map, if◌then◌else◌}
 use Rattle.std.specs.List.{AllByRecursion, IsDistinct}
-use Rattle.std.proofs.lemmas.Bool.{cases_eq}
+use Rattle.std.proofs.lemmas.Bool.{cases_eq, and_from}
 use Rattle.fp_model.specs.declared.database.AreaEnds.{AreaEnds}
 use Rattle.fp_model.specs.declared.database.Dedb.{Dedb}
 use Rattle.fp_model.specs.declared.database.Root.{Root}
@@ -15,14 +15,20 @@ use Rattle.fp_model.specs.State.{Area, anchors_in, areas_from, ascend, change_ke
 use Rattle.fp_model.specs.Texts.{same_text}
 use Rattle.state_laws.specs.Inserts.{FitsSequential, ending_at, with_sequential, with_serial}
 use Rattle.state_laws.proofs.Areas.{AreApart, LiesIn, lies_in, lies_outside, placed, same_or_apart}
-use Rattle.key_order.proofs.Ascending.{all_above, below_differs, differs_back, same_is, tail_ascends}
+use Rattle.key_order.proofs.Ascending.{all_above, below_differs, differs_back, tail_ascends}
 use Rattle.state_laws.proofs.Changing.{serials_at, serials_of}
 use Rattle.state_laws.proofs.Counts.{distinct_few, few_times, times, times_append}
 use Rattle.state_laws.proofs.Inserting.{anchor_later, anchor_with}
-use Rattle.state_laws.proofs.Lists.{both_true, each_at, each_set, first_true, second_true, some_is, true_is_not_false}
-use Rattle.state_laws.proofs.Purging.{are_the_ends, ends_are, is_le, is_lt, lt_is}
-use Rattle.state_laws.proofs.Ranges.{get_set_other, get_set_same, length_set, part_same}
+use Rattle.state_laws.proofs.Lists.{each_at, true_is_not_false}
+use Rattle.state_laws.proofs.Purging.{are_the_ends, ends_are}
+use Rattle.state_laws.proofs.Ranges.{part_same}
 use Rattle.state_laws.proofs.Roots.{passes, to_good, whole}
+use Rattle.plain_laws.proofs.Alls.{each_set}
+use Rattle.plain_laws.proofs.Truths.{first_of_both, second_of_both}
+use Rattle.plain_laws.proofs.Places.{get_other, get_set_same, length_set}
+use Rattle.plain_laws.proofs.Numbers.{is_le, lt_is, lt_true}
+use Rattle.model_laws.proofs.Texts.{same_text_is}
+use Rattle.std.proofs.lemmas.Option.{same_Some}
 
 -- ---- parts
 
@@ -53,7 +59,7 @@ module _ {X : Type 0} (f : X → List ℕ) (n : ℕ) where
     front_more (suc count) [] a x at le = omega arith
     front_more (suc count) (z ∷ zs) zero x at le =
         let le2 : times n (f y) ≤ times n (f z) + more =
-        subst (λ (w : X). times n (f y) ≤ times n (f w) + more) (sym (some_is z x at)) le in
+        subst (λ (w : X). times n (f y) ≤ times n (f w) + more) (sym (same_Some z x at)) le in
         omega (
           arith,
           le2,
@@ -84,12 +90,12 @@ none_newest : (begin end last : ℕ) (items : List SeqItem) → end ≤ last →
     → times last (map (λ item. item.serial) items) ≤ 0
 none_newest begin end last [] le e = omega arith
 none_newest begin end last (item ∷ items) le e =
-    let front = first_true (nat_le begin item.serial && nat_lt item.serial end)
+    let front = first_of_both (nat_le begin item.serial && nat_lt item.serial end)
     (are_newest_first begin item.serial items) e in
-    let less = lt_is item.serial end (second_true (nat_le begin item.serial) (nat_lt item.serial end) front) in
+    let less = lt_is item.serial end (second_of_both (nat_le begin item.serial) (nat_lt item.serial end) front) in
     by (item.serial == last) refl (omega (arith, less, le))
     (none_newest begin item.serial last items (omega (arith, less, le))
-    (second_true (nat_le begin item.serial && nat_lt item.serial end) (are_newest_first begin item.serial items) e))
+    (second_of_both (nat_le begin item.serial && nat_lt item.serial end) (are_newest_first begin item.serial items) e))
   where
     number_is : (a b : ℕ) → (a == b) ≡ true → a ≡ b
     number_is a b e = grind arith
@@ -144,7 +150,7 @@ module _ (key : Root → List ℕ) (k : List ℕ) (item : SeqItem) (n : ℕ) whe
           → times n (serials_at ((if b then with_newest item r else r) ∷ change_key key k (with_newest item) rs)) ≤
           times n (serials_at (r ∷ rs)) + one_if item.serial n
       by true is rest =
-          let same = none_changed rs (others_differ r rs (same_is (key r) k is) (all_above key r rs up)) in
+          let same = none_changed rs (others_differ r rs (same_text_is (key r) k is) (all_above key r rs up)) in
           let counts : times n (serials_at (change_key key k (with_newest item) rs)) ≡ times n (serials_at rs) =
           ap (λ (zs : List Root). times n (serials_at zs)) same in
           let a : times n (serials_at (with_newest item r ∷ change_key key k (with_newest item) rs)) ≡
@@ -184,7 +190,7 @@ module _ (def : DedbDef) (dedb : Dedb) (area : Area) (anchor : ℕ) (ends : Area
         room = fits.room;
         last = fits.last;
         part = or_true (nat_lt 0 area.def.capacity) (ends.end + 1 == 1)
-            (is_lt 0 area.def.capacity (omega (arith, k.order, fits.room)));
+            (lt_true 0 area.def.capacity (omega (arith, k.order, fits.room)));
       })
     where
       or_true : (a b : Bool) → a ≡ true → (a || b) ≡ true
@@ -214,7 +220,7 @@ module _ (def : DedbDef) (dedb : Dedb) (area : Area) (anchor : ℕ) (ends : Area
           ends2 = subst (λ (x : Area). slice_get (slice_set dedb.areas area.number (ending_at (ends.end + 1) ends))
           x.number ≡ Some ends2) (sym same) b_at in
           let ends_is : ending_at (ends.end + 1) ends ≡ ends2 =
-          some_is (ending_at (ends.end + 1) ends) ends2
+          same_Some (ending_at (ends.end + 1) ends) ends2
           (sym (get_set_same dedb.areas area.number (ending_at (ends.end + 1) ends) ends fits.ends_now) ∙ at_area)
           in
           subst (λ (x : AreaEnds). is_anchor def at x y ≡ true) ends_is (in_area here)
@@ -225,7 +231,7 @@ module _ (def : DedbDef) (dedb : Dedb) (area : Area) (anchor : ℕ) (ends : Area
               Some y = subst (λ (k : ℕ). slice_get
               (slice_set dedb.anchors anchor (with_serial def ends.end key bytes roots)) k ≡ Some y) is e in
               let y_is : with_serial def ends.end key bytes roots ≡ y =
-              some_is (with_serial def ends.end key bytes roots) y
+              same_Some (with_serial def ends.end key bytes roots) y
               (sym (get_set_same dedb.anchors anchor (with_serial def ends.end key bytes roots) roots
               fits.roots_now) ∙ there) in
               let order = (ends_are area.def.capacity ends ends_good).order in
@@ -236,7 +242,7 @@ module _ (def : DedbDef) (dedb : Dedb) (area : Area) (anchor : ℕ) (ends : Area
               anchor_later def at ends (ends.end + 1) (omega arith) y
               (good.each_anchor area ends at y fits.area_there fits.ends_now
               (subst (λ (x : Area). has_anchor x 0 at ≡ true) (sym same) has)
-              (sym (get_set_other dedb.anchors anchor at (with_serial def ends.end key bytes roots) other) ∙ e))
+              (sym (get_other dedb.anchors anchor at (with_serial def ends.end key bytes roots) other) ∙ e))
       by (inr apart) (inl is) = absurd (beside (lies_outside area b anchor apart
           (subst (λ (k : ℕ). LiesIn b k) is (lies_in b 0 at has))))
         where
@@ -245,9 +251,9 @@ module _ (def : DedbDef) (dedb : Dedb) (area : Area) (anchor : ℕ) (ends : Area
           beside (inr behind) = let l = lies_in area 0 anchor fits.in_area in absurd (omega (arith, behind, l.high))
       by (inr apart) (inr other) =
           good.each_anchor b ends2 at y b_there (sym
-          (get_set_other dedb.areas area.number b.number (ending_at (ends.end + 1) ends)
+          (get_other dedb.areas area.number b.number (ending_at (ends.end + 1) ends)
           (λ q. apart.numbers (sym q))) ∙ b_at) has
-          (sym (get_set_other dedb.anchors anchor at (with_serial def ends.end key bytes roots) other) ∙ e)
+          (sym (get_other dedb.anchors anchor at (with_serial def ends.end key bytes roots) other) ∙ e)
 
   -- the end isn't a serial of the area yet
   end_is_new : times ends.end (serials_in area dedb) ≤ 0
@@ -258,12 +264,12 @@ module _ (def : DedbDef) (dedb : Dedb) (area : Area) (anchor : ℕ) (ends : Area
       is_in : (a : Area) (k : ℕ) → has_anchor a 0 anchor ≡ true → a.first_anchor ≤ k
           → k < a.first_anchor + anchors_in a.def → has_anchor a 0 k ≡ true
       is_in a k e low high =
-          let front = first_true (a.dedb == 0 && nat_le a.first_anchor anchor)
+          let front = first_of_both (a.dedb == 0 && nat_le a.first_anchor anchor)
           (nat_lt anchor (a.first_anchor + anchors_in a.def)) e in
-          let its = first_true (a.dedb == 0) (nat_le a.first_anchor anchor) front in
-          both_true (a.dedb == 0 && nat_le a.first_anchor k) (nat_lt k (a.first_anchor + anchors_in a.def))
-          (both_true (a.dedb == 0) (nat_le a.first_anchor k) its (is_le a.first_anchor k low))
-          (is_lt k (a.first_anchor + anchors_in a.def) high)
+          let its = first_of_both (a.dedb == 0) (nat_le a.first_anchor anchor) front in
+          and_from (a.dedb == 0 && nat_le a.first_anchor k) (nat_lt k (a.first_anchor + anchors_in a.def))
+          (and_from (a.dedb == 0) (nat_le a.first_anchor k) its (is_le a.first_anchor k low))
+          (lt_true k (a.first_anchor + anchors_in a.def) high)
 
   few_after : (n : ℕ) → times n (serials_in area after) ≤ 1
   few_after n =
@@ -296,7 +302,7 @@ module _ (def : DedbDef) (dedb : Dedb) (area : Area) (anchor : ℕ) (ends : Area
       by (inr apart) =
           let part = part_same (anchors_in b.def) b.first_anchor dedb.anchors
           (slice_set dedb.anchors anchor (with_serial def ends.end key bytes roots))
-          (λ k low high. get_set_other dedb.anchors anchor k (with_serial def ends.end key bytes roots)
+          (λ k low high. get_other dedb.anchors anchor k (with_serial def ends.end key bytes roots)
           (λ q. beside k (lies_outside area b k apart (record { low = low; high = high })) q)) in
           subst (λ (anchors : List (List Root)). IsDistinct ◌==◌ (flat_map serials_at anchors)) (sym part)
           (good.serials b b_there)

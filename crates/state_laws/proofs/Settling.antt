@@ -21,44 +21,31 @@ use Rattle.fp_model.specs.State.{drop_key, key_of, segment_of, with_segment, wit
 use Rattle.fp_model.specs.Texts.{number_in, padded, same_text}
 use Rattle.fp_model.specs.WellFormed.{IsMsdbDef, StandFrom}
 use Rattle.key_order.proofs.Ascending.{all_but, all_put, still_ascends, with_one_ascends}
-use Rattle.state_laws.proofs.Lists.{each_set, each_at, all_at, found_has, none_is_not_some, some_is}
+use Rattle.state_laws.proofs.Lists.{each_at, all_at, found_has}
+use Rattle.model_laws.proofs.Numerals.{length-big_endian, length-form}
+use Rattle.plain_laws.proofs.Alls.{each_set}
+use Rattle.model_laws.proofs.Layouts.{field_within, with_field_length}
+use Rattle.std.proofs.lemmas.Option.{none-some, same_Some}
 
 -- ---- lengths of fields
 
-big_length : (k n : ℕ) → length (big_endian k n) ≡ k
-big_length zero n = refl
-big_length (suc k) n = let a = length-append (big_endian k (n / 256)) (n % 256 ∷ []) in
-    let b = big_length k (n / 256) in omega (arith, a, b)
-
-pairs_length : (k n : ℕ) → length (pairs k n) ≡ k
-pairs_length zero n = refl
-pairs_length (suc k) n =
-    let a = length-append (pairs k (n / 100)) (((n / 10) % 10 * 16 + n % 10) ∷ []) in
-    let b = pairs_length k (n / 100) in omega (arith, a, b)
-
-packed_length : (size n sign : ℕ) → 1 ≤ size → length (packed_form size n sign) ≡ size
-packed_length size n sign some =
-    let a = length-append (pairs (size - 1) (n / 10)) ((n % 10 * 16 + sign) ∷ []) in
-    let b = pairs_length (size - 1) (n / 10) in
-    omega (arith, a, b, some)
-
 -- a value that stands under a test
 under_test : (b : Bool) (x bytes : List ℕ) → (if b then Some x else None) ≡ Some bytes → x ≡ bytes
-under_test true x bytes e = some_is x bytes e
-under_test false x bytes e = absurd (none_is_not_some bytes e)
+under_test true x bytes e = same_Some x bytes e
+under_test false x bytes e = absurd (none-some bytes e)
 
 form_length : (kind : FieldKind) (size : ℕ) (n : ℤ) (bytes : List ℕ) → is_length_of kind size ≡ true
     → form_of kind size n ≡ Some bytes → length bytes ≡ size
-form_length C size n bytes fits e = absurd (none_is_not_some bytes e)
-form_length X size (pos n) bytes fits e = sym (ap length (under_test _ (big_endian size n) bytes e)) ∙ big_length size n
-form_length X size (negsuc n) bytes fits e = absurd (none_is_not_some bytes e)
+form_length C size n bytes fits e = absurd (none-some bytes e)
+form_length X size (pos n) bytes fits e = sym (ap length (under_test _ (big_endian size n) bytes e)) ∙ length-big_endian size n
+form_length X size (negsuc n) bytes fits e = absurd (none-some bytes e)
 form_length H size n bytes fits e = let two : size ≡ 2 = grind (arith, nat_tests) in
     sym (ap length (under_test _ _ bytes e)) ∙ sym two
 form_length F size n bytes fits e = let four : size ≡ 4 = grind (arith, nat_tests) in
     sym (ap length (under_test _ _ bytes e)) ∙ sym four
 form_length P size n bytes fits e =
     let some : 1 ≤ size = grind (arith, nat_tests) in
-    sym (ap length (under_test _ _ bytes e)) ∙ packed_length size _ _ some
+    sym (ap length (under_test _ _ bytes e)) ∙ length-form size _ _ some
 
 bytes_length : (kind : FieldKind) (size : ℕ) (n : ℤ) (bytes : List ℕ) → bytes_of kind size n ≡ Some bytes
     → length bytes ≡ size
@@ -67,7 +54,7 @@ bytes_length kind size n bytes e = by (is_length_of kind size) refl e
     by : (b : Bool) → is_length_of kind size ≡ b → (if b then form_of kind size n else None) ≡ Some bytes
         → length bytes ≡ size
     by true fits e = form_length kind size n bytes fits e
-    by false fits e = absurd (none_is_not_some bytes e)
+    by false fits e = absurd (none-some bytes e)
 
 padded_length : (n : ℕ) (text : List ℕ) → length text ≤ n → length (padded n text) ≡ n
 padded_length n text short =
@@ -84,7 +71,7 @@ changed_length field op old operand bytes good e = by (is_text field.kind) good 
   where
     numbers : (o : Option ℤ) → option_and_then (bytes_of field.kind field.length) o ≡ Some bytes
         → length bytes ≡ field.length
-    numbers None e = absurd (none_is_not_some bytes e)
+    numbers None e = absurd (none-some bytes e)
     numbers (Some n) e = bytes_length field.kind field.length n bytes e
 
     by : (b : Bool) → (if b then nat_le (length operand) field.length else not (is_none (number_in operand))) ≡ true
@@ -93,7 +80,7 @@ changed_length field op old operand bytes good e = by (is_text field.kind) good 
         → length bytes ≡ field.length
     by true short e =
         let le : length operand ≤ field.length = grind (arith, nat_tests) in
-        sym (ap length (some_is (padded field.length operand) bytes e)) ∙ padded_length field.length operand le
+        sym (ap length (same_Some (padded field.length operand) bytes e)) ∙ padded_length field.length operand le
     by false short e = numbers (new_number field op old operand) e
 
 third_letter : (a b c : Bool) (others : ℕ) → (if a then 65 else (if b then 67 else (if not c then 66 else others))) ≡ 32
@@ -108,34 +95,6 @@ good_suits : (field : FieldDef) (op : ℕ) (operand bytes : List ℕ) → letter
     → suits field operand ≡ true
 good_suits field op operand bytes e = third_letter (is_sum op && is_text field.kind) (is_change op && is_key field)
     (suits field operand) _ e
-
-stand_below : (fields : List FieldDef) (at end : ℕ) → StandFrom at fields end → at ≤ end
-stand_below [] at end h = omega (arith, h)
-stand_below (f ∷ fs) at end h = omega (arith, stand_below fs (at + f.length) end h.2)
-
-within_first : (b : Bool) (first field : FieldDef) (others : Option FieldDef) (at end : ℕ) → first.at ≡ at
-    → at + first.length ≤ end → (others ≡ Some field → field.at + field.length ≤ end)
-    → (if b then Some first else others) ≡ Some field → field.at + field.length ≤ end
-within_first true first field others at end is le later found =
-    subst (λ (f : FieldDef). f.at + f.length ≤ end) (some_is first field found) (omega (arith, is, le))
-within_first false first field others at end is le later found = later found
-
--- a field ends within its segment
-field_within : (fields : List FieldDef) (at end : ℕ) (name : List ℕ) (field : FieldDef) → StandFrom at fields end
-    → field_of fields name ≡ Some field → field.at + field.length ≤ end
-field_within [] at end name field h found = absurd (none_is_not_some field found)
-field_within (f ∷ fs) at end name field h found =
-    within_first (same_text f.name.0 name) f field (field_of fs name) at end h.0
-    (stand_below fs (at + f.length) end h.2) (field_within fs (at + f.length) end name field h.2) found
-
-with_field_length : (field : FieldDef) (bytes segment : List ℕ) → length bytes ≡ field.length
-    → field.at + field.length ≤ length segment → length (with_field field bytes segment) ≡ length segment
-with_field_length field bytes segment is le =
-    let a = length-append (take field.at segment) bytes in
-    let b = length-append (take field.at segment ++ bytes) (drop (field.at + length bytes) segment) in
-    let c = length-take field.at segment in
-    let d = length-drop (field.at + length bytes) segment in
-    omega (arith, a, b, c, d, is, le)
 
 module _ (def : MsdbDef) (end : ℕ) (stands : StandFrom 0 def.fields end) where
   letter_is : (v c : Bool) (o : Option FieldDef) (field : FieldDef) (f : FieldDef → ℕ) → c ≡ true → o ≡ Some field
@@ -259,7 +218,7 @@ module _ (defs : List MsdbDef) (are : AllByRecursion IsMsdbDef defs) where
       → AllZip IsMsdbOf defs (with_msdb defs number (λ def msdb. with_segment def bytes msdb) msdbs)
   put number bytes msdbs fit good = one_changed number (λ def msdb. with_segment def bytes msdb) msdbs good
       (λ def msdb at one. with_good def bytes msdb (subst (λ (d : MsdbDef). length bytes ≡ d.length)
-      (some_is fit.0 def (sym fit.1 ∙ at)) fit.2) one)
+      (same_Some fit.0 def (sym fit.1 ∙ at)) fit.2) one)
 
   one_applied : (call : Deferred) (msdbs changed : List Msdb) → IsFitDeferred defs call → AllZip IsMsdbOf defs msdbs
       → applied defs call msdbs ≡ Becomes changed → AllZip IsMsdbOf defs changed

@@ -13,31 +13,15 @@ use Rattle.fp_model.specs.declared.definitions.Defs.{Defs}
 use Rattle.fp_model.specs.Commit.{ends_at}
 use Rattle.fp_model.specs.Shape.{IsDbOf, IsDedbOf, are_ends}
 use Rattle.fp_model.specs.State.{Area, anchors_in, areas_from, areas_of, areas_of_all, has_anchor}
-use Rattle.state_laws.proofs.Areas.{alone, alone_there, contains_cases, contains_first, contains_later, contains_nothing, database, placed, same_or_apart}
-use Rattle.state_laws.proofs.Lists.{both_true, each_at, none_is_not_some, some_is}
-use Rattle.state_laws.proofs.Purging.{is_le, partner}
+use Rattle.state_laws.proofs.Areas.{alone, alone_there, database, placed, same_or_apart}
+use Rattle.state_laws.proofs.Lists.{each_at}
+use Rattle.state_laws.proofs.Purging.{partner}
+use Rattle.std.proofs.lemmas.Bool.{and_from}
+use Rattle.plain_laws.proofs.Alls.{contains_cases, contains_first, contains_later, contains_nothing}
+use Rattle.plain_laws.proofs.Numbers.{is_le}
+use Rattle.std.proofs.lemmas.Option.{same_Some}
 
 -- ---- lists
-
--- what is found stands there
-pub found_there : {X : Type 0} (p : X → Bool) (xs : List X) (x : X) → find p xs ≡ Some x → Contains xs x
-found_there p [] x e = absurd (none_is_not_some x e)
-found_there {X} p (y ∷ ys) x e = by (p y) e (λ f. found_there p ys x f)
-  where
-    by : (b : Bool) → (if b then Some y else find p ys) ≡ Some x → (find p ys ≡ Some x → Contains ys x)
-        → Contains (y ∷ ys) x
-    by true e later = subst (λ z. Contains (y ∷ ys) z) (some_is y x e) (contains_first y ys)
-    by false e later = contains_later y ys x (later e)
-
--- and passes
-pub found_passes : {X : Type 0} (p : X → Bool) (xs : List X) (x : X) → find p xs ≡ Some x → p x ≡ true
-found_passes p [] x e = absurd (none_is_not_some x e)
-found_passes {X} p (y ∷ ys) x e = by (p y) refl e (λ f. found_passes p ys x f)
-  where
-    by : (b : Bool) → p y ≡ b → (if b then Some y else find p ys) ≡ Some x → (find p ys ≡ Some x → p x ≡ true)
-        → p x ≡ true
-    by true is e later = subst (λ z. p z ≡ true) (some_is y x e) is
-    by false is e later = later e
 
 pub all_contained : {X : Type 0} (P : X → Type 0) (xs : List X) (x : X) → AllByRecursion P xs → Contains xs x → P x
 all_contained P [] x all c = absurd (contains_nothing x c)
@@ -45,18 +29,6 @@ all_contained P (y ∷ ys) x all c = elim (contains_cases y ys x c) [
   | inl same ↦ subst P same all.0
   | inr there ↦ all_contained P ys x all.1 there
 ]
-
--- there is an element at each place below the length
-pub get_there : {X : Type 0} (xs : List X) (n : ℕ) → n < length xs → (x : X) × (slice_get xs n ≡ Some x)
-get_there [] n low = absurd (omega (arith, low))
-get_there (x ∷ xs) zero low = (x, refl)
-get_there (x ∷ xs) (suc n) low = get_there xs n (omega (arith, low))
-
--- and at no other
-pub get_below : {X : Type 0} (xs : List X) (n : ℕ) (x : X) → slice_get xs n ≡ Some x → n < length xs
-get_below [] n x e = absurd (none_is_not_some x e)
-get_below (y ∷ ys) zero x e = omega arith
-get_below (y ∷ ys) (suc n) x e = let low = get_below ys n x e in omega (arith, low)
 
 -- ---- the areas of one database
 
@@ -104,8 +76,8 @@ area_of_anchor dedb number before (d ∷ ds) anchor low high =
     by true is later = record {
       area = first;
       there = contains_first first (areas_from dedb (number + 1) (before + anchors_in d) ds);
-      has = both_true (dedb == dedb && nat_le before anchor) (nat_lt anchor (before + anchors_in d))
-          (both_true (dedb == dedb) (nat_le before anchor) (is_number dedb) (is_le before anchor low)) is;
+      has = and_from (dedb == dedb && nat_le before anchor) (nat_lt anchor (before + anchors_in d))
+          (and_from (dedb == dedb) (nat_le before anchor) (is_number dedb) (is_le before anchor low)) is;
     }
     by false is later =
         let h = later (not_less anchor (before + anchors_in d) is) (omega (arith, high, sum_by-cons anchors_in d ds)) in
@@ -126,7 +98,7 @@ same_area defs a b ca cb dedb number =
     let place : hb.place ≡ ha.place = omega (arith, ha.its_dedb, hb.its_dedb, dedb) in
     let def_at : slice_get defs ha.place ≡ Some hb.def =
     subst (λ (k : ℕ). slice_get defs k ≡ Some hb.def) place hb.its_def in
-    let def_is : hb.def ≡ ha.def = some_is hb.def ha.def (sym def_at ∙ ha.its_def) in
+    let def_is : hb.def ≡ ha.def = same_Some hb.def ha.def (sym def_at ∙ ha.its_def) in
     let there : Contains (areas_from a.dedb 0 0 hb.def.areas) b =
     subst (λ (n : ℕ). Contains (areas_from n 0 0 hb.def.areas) b) (sym dedb) hb.there in
     let there2 : Contains (areas_from a.dedb 0 0 ha.def.areas) b =

@@ -57,7 +57,7 @@ loading def segments (s ∷ rest) good loads distinct others =
     loads.1 (IsDistinct-tail same_text (key s) (map key rest) distinct)
     (still_others key s segments rest (IsDistinct-head same_text (key s) (map key rest) distinct) others.1)
 
-loaded_good : (def : MsdbDef) → IsMsdbDef def → IsMsdbOf def (loaded def)
+pub loaded_good : (def : MsdbDef) → IsMsdbDef def → IsMsdbOf def (loaded def)
 loaded_good def is = loading def [] def.load (record { lengths = tt; in_order = refl }) is.loaded is.keys
     (no_others (key_of def.fields) def.load)
 

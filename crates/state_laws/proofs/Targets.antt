@@ -1,11 +1,11 @@
 -- The target that a call names.
-use Rattle.std.proofs.Common.{◌≡◌, ℕ, zero, suc, ◌+◌, ◌-◌, ◌≤◌, List, [], ◌∷◌, length, Option, Some, None, refl, sym, slice_get, arith}
+use Rattle.std.proofs.Common.{◌≡◌, ℕ, ◌+◌, ◌-◌, ◌≤◌, length, Option, Some, None, refl, slice_get, arith}
 use Rattle.std.specs.Option.{option_map_or}
 use Rattle.fp_model.specs.declared.definitions.DedbDef.{DedbDef}
 use Rattle.fp_model.specs.declared.definitions.Defs.{Defs}
 use Rattle.fp_model.specs.declared.definitions.MsdbDef.{MsdbDef}
 use Rattle.fp_model.specs.Calls.{Nowhere, OnDedb, OnMsdb, Target, dedb_target, target_of}
-use Rattle.state_laws.proofs.Lists.{none_is_not_some}
+use Rattle.plain_laws.proofs.Places.{beyond_none}
 
 -- what stands at a number: main storage databases first
 pub data IsTarget (defs : Defs) (n : ℕ) : Target → Type 0 where
@@ -13,11 +13,6 @@ pub data IsTarget (defs : Defs) (n : ℕ) : Target → Type 0 where
   is_dedb : (def : DedbDef) (dedb : ℕ) → slice_get defs.dedbs dedb ≡ Some def → n ≡ length defs.msdbs + dedb
       → IsTarget defs n (OnDedb def dedb)
   is_nowhere : IsTarget defs n Nowhere
-
-none_behind : {X : Type 0} (xs : List X) (n : ℕ) → slice_get xs n ≡ None → length xs ≤ n
-none_behind [] n e = omega arith
-none_behind (x ∷ xs) zero e = absurd (none_is_not_some x (sym e))
-none_behind (x ∷ xs) (suc n) e = let low = none_behind xs n e in omega (arith, low)
 
 pub its_target : (defs : Defs) (n : ℕ) → IsTarget defs n (target_of defs n)
 its_target defs n = by (slice_get defs.msdbs n) refl
@@ -30,5 +25,5 @@ its_target defs n = by (slice_get defs.msdbs n) refl
     by : (o : Option MsdbDef) → slice_get defs.msdbs n ≡ o
         → IsTarget defs n (option_map_or (λ def. OnMsdb def n) o (dedb_target defs (n - length defs.msdbs)))
     by None at =
-        dedb (slice_get defs.dedbs (n - length defs.msdbs)) refl (none_behind defs.msdbs n at)
+        dedb (slice_get defs.dedbs (n - length defs.msdbs)) refl (beyond_none defs.msdbs n at)
     by (Some def) at = is_msdb def at

@@ -26,10 +26,9 @@ use Rattle.fp_model.specs.State.{key_of, segment_after, segment_of}
 use Rattle.fp_model.specs.Texts.{same_text}
 use Rattle.fp_model.specs.Workspace.{DedbPosition, Workspace, no_dedb_position}
 use Rattle.state_laws.proofs.Keeping.{place_held}
-use Rattle.state_laws.proofs.Lists.{none_is_not_some, some_is}
-use Rattle.state_laws.proofs.Ranges.{get_set_other}
-use Rattle.state_laws.proofs.Stands.{get_below}
 use Rattle.state_laws.proofs.Targets.{IsTarget, is_dedb, is_msdb, is_nowhere, its_target}
+use Rattle.std.proofs.lemmas.Option.{none-some, same_Some, slice_get_within}
+use Rattle.plain_laws.proofs.Places.{get_other}
 
 -- ---- main storage databases: no place changes
 
@@ -136,18 +135,18 @@ module _ (own : Workspace) (number : ℕ) (def : DedbDef) where
       → place_held p ≡ Some place
   position_held dedbs p place e = elim (set_here dedbs number p no_dedb_position) [
     | inl is ↦ sym (ap place_held is) ∙ e
-    | inr none ↦ absurd (none_is_not_some place (sym (ap place_held none) ∙ e))
+    | inr none ↦ absurd (none-some place (sym (ap place_held none) ∙ e))
   ]
 
   not_held : (p : DedbPosition) (place : Place) → p.held ≡ false → place_held p ≡ Some place → ⊥
   not_held p place is e =
-      none_is_not_some place (sym (ap (λ b. if b then p.place else None) is) ∙ e)
+      none-some place (sym (ap (λ b. if b then p.place else None) is) ∙ e)
 
   -- where a position that isn't held is set
   ended : (c : Call) (r : Replied) (p : DedbPosition) → r.own.dedbs ≡ slice_set own.dedbs number p → p.held ≡ false
       → IsBehind c r
   ended c r p is none = record {
-    others = λ k other. ap (λ (ps : List DedbPosition). slice_get ps k) is ∙ get_set_other own.dedbs number k p other;
+    others = λ k other. ap (λ (ps : List DedbPosition). slice_get ps k) is ∙ get_other own.dedbs number k p other;
     here = λ place e. absurd (not_held p place none
         (position_held own.dedbs p place
         (sym (ap (λ (ps : List DedbPosition). place_held (unwrap_or (slice_get ps number) no_dedb_position)) is) ∙ e)));
@@ -169,7 +168,7 @@ module _ (own : Workspace) (number : ℕ) (def : DedbDef) where
       let parent : Option Place = dedb.parent_after def number g (dedb.position_of def number own).parent place in
       let p : DedbPosition = record { place = Some place; parent = parent; held = hold } in
       record {
-        others = λ k other. get_set_other own.dedbs number k p other;
+        others = λ k other. get_other own.dedbs number k p other;
         here = λ other e. (
           refl,
           ap (λ (q : Place). dedb.type_of_path def number q.path)
@@ -178,8 +177,8 @@ module _ (own : Workspace) (number : ℕ) (def : DedbDef) where
       }
     where
       held : (b : Bool) (place other : Place) → (if b then Some place else None) ≡ Some other → place ≡ other
-      held true place other e = some_is place other e
-      held false place other e = absurd (none_is_not_some other e)
+      held true place other e = same_Some place other e
+      held false place other e = absurd (none-some other e)
 
   module _ (db : Db) where
     get_behind : (g : Get) (hold : Bool) (n : ℕ) (ssas : List Ssa)
@@ -254,7 +253,7 @@ module _ (own : Workspace) (number : ℕ) (def : DedbDef) where
         let after : List DedbPosition = slice_set own.dedbs number first in
         let p : DedbPosition = record (unwrap_or (slice_get after number) no_dedb_position) { parent = None } in
         record {
-          others = λ k other. get_set_other after number k p other ∙ get_set_other own.dedbs number k first other;
+          others = λ k other. get_other after number k p other ∙ get_other own.dedbs number k first other;
           here = λ q e. absurd (not_held p q (was_ended own.dedbs) (position_held after p q e));
         }
       where
@@ -351,7 +350,7 @@ module _ (defs : Defs) (now visible : Db) (shown : ℕ → Option ℕ) (own : Wo
   target_tied t (is_msdb def at) n its place defined held =
       let number : ℕ = database_of c in
       msdb_tied (msdb.msdb_reply def number (msdb_at now number) (msdb_at visible number) own c)
-      (get_below defs.msdbs number def at) (msdb_stays own number def (msdb_at now number) (msdb_at visible number) c) n
+      (slice_get_within defs.msdbs number def at) (msdb_stays own number def (msdb_at now number) (msdb_at visible number) c) n
       its place defined held
   target_tied t (is_dedb def number at is) n its place defined held =
       dedb_tied (dedb.dedb_reply def number now own c) number def is (dedb_behind own number def now c) n its place

@@ -15,18 +15,14 @@ use Rattle.fp_model.specs.State.{segment_of}
 use Rattle.fp_model.specs.Texts.{same_text}
 use Rattle.fp_model.specs.WellFormed.{IsMsdbDef, StandFrom}
 use Rattle.sync_point.proofs.Scripts.{each_has}
+use Rattle.model_laws.proofs.Layouts.{stand_from}
 
 -- ---- fields are short
-
--- fields that stand in a segment end in it
-fields_within : (fields : List FieldDef) (at end : ℕ) → StandFrom at fields end → at ≤ end
-fields_within [] at end h = omega (arith, h)
-fields_within (f ∷ fs) at end h = let e = fields_within fs (at + f.length) end h.2 in omega (arith, e)
 
 each_within : (fields : List FieldDef) (at end : ℕ) → StandFrom at fields end
     → AllByRecursion (λ (f : FieldDef). f.length ≤ end) fields
 each_within [] at end h = tt
-each_within (f ∷ fs) at end h = let e = fields_within fs (at + f.length) end h.2 in
+each_within (f ∷ fs) at end h = let e = stand_from fs (at + f.length) end h.2 in
     (omega (arith, e), each_within fs (at + f.length) end h.2)
 
 -- ---- a field that is found

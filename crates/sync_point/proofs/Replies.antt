@@ -16,6 +16,7 @@ use Rattle.fp_model.specs.Texts.{is_printable}
 use Rattle.fp_model.specs.Values.{◌>>=◌}
 use Rattle.fp_model.specs.Operands.{Env, at_top, set_text, chosen, joined_texts, reply_text, get_call, fld_call, isrt_call, repl_call}
 use Rattle.fp_model.specs.Asking.{Way, Goes, Leaves, Ends, Ask, Asks, Replies, Rolls, or_rolls, goes_on, in_order, loops_on, times, called, run, run_step, ended, ask}
+use Rattle.plain_laws.proofs.Truths.{first_of_both}
 
 -- an end whose reply, if it has one, is short
 abbrev pub EndIsShort : Ask → Type 0
@@ -62,11 +63,6 @@ asked-short o env = or_rolls-short o (λ c. called c env) (λ c e. called-short 
 
 -- ---- a reply
 
--- both of two conditions
-first_of : (a b : Bool) → (a && b) ≡ true → a ≡ true
-first_of true b e = refl
-first_of false b e = e
-
 kept : (b : Bool) (text reply : List ℕ) → (if b then Some text else None) ≡ Some reply → (b ≡ true) × (text ≡ reply)
 kept true text reply e = (refl, cc)
 kept false text reply e = absurd cc
@@ -77,7 +73,7 @@ short_text : (text reply : List ℕ)
 short_text text reply e =
     let k = kept (nat_le (length text) 1000 && list_all is_printable text) text reply e in
     subst (λ (t : List ℕ). length t ≤ 1000) k.1 (is_within (length text)
-    (first_of (nat_le (length text) 1000) (list_all is_printable text) k.0))
+    (first_of_both (nat_le (length text) 1000) (list_all is_printable text) k.0))
   where
     is_within : (n : ℕ) → nat_le n 1000 ≡ true → n ≤ 1000
     is_within n e = grind (arith, common_steps, e)

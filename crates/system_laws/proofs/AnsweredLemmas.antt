@@ -15,7 +15,6 @@ use Rattle.fp_source.specs.declared.part.Part.TheVariants as part
 use Rattle.line_laws.specs.Answered.{AreAnswered}
 use Rattle.run_laws.specs.Starts.{IsFromSerial}
 use Rattle.schedule_runs.specs.Ways.{next_event}
-use Rattle.sealed_runs.proofs.Parts.{entries_both}
 use Rattle.system_laws.specs.Answered.{AnswersEachLine}
 use Rattle.fp_core.specs.Sparing.{IsSealing}
 use Rattle.fp_system.specs.Courses.{Course, Input, IsEnded, IsSoundFor, with_seals}
@@ -24,6 +23,7 @@ use Rattle.fp_system.specs.Parts.{IsJob, Job, rules_for}
 use Rattle.fp_system.specs.declared.status.Status.TheVariants.{Done}
 use Rattle.fp_system.proofs.Jobs.{read_for}
 use Rattle.fp_system.proofs.Ways.{goes_runs}
+use Rattle.model_laws.proofs.Entries.{entries-append}
 
 -- the definitions of a job are well formed
 pub defs_are : (kinds : Kinds) (left : Part → List ℕ) (job : Job) → IsJob kinds left job → AreDefs job.defs
@@ -84,7 +84,7 @@ module _ (job : Job) (format : ℕ) (given : Input) (earlier : List Entry) (old 
         in_order = all.in_order;
         sound =
             subst (IsSoundFor job format (new.contents 0))
-            (entries_both went.before groups ∙ ap (λ (es : List Entry). es ++ entries_of groups) went.stood
+            (entries-append went.before groups ∙ ap (λ (es : List Entry). es ++ entries_of groups) went.stood
             ∙ ap (λ (es : List Entry). earlier ++ es) sealed) went.log.sound;
         durable = end.rest (subst (λ (l : List Event). ¬ IsSealing (next_event l)) (sym end.ends.0) (λ s. s));
         sent = went.sent ∙ ap (λ (t : List ℕ). old.sent ++ t) (its_text ∙ all.sent);

@@ -33,7 +33,7 @@ use Rattle.msdb_store.proofs.ItemLemmas.{items_are_one, still_of}
 use Rattle.run_laws.specs.Determined.{plain, plain_entry, whole}
 use Rattle.run_laws.proofs.OneValue.{runs_found}
 use Rattle.fp_core.specs.Turning.{AreItemsOf, HasItsItems, IsExactOfRegion, IsExactTurn}
-use Rattle.fp_core.proofs.Exacts.{Adds, AddsNone, AddsOne, done_or_not, names_first, turn_adds}
+use Rattle.fp_core.proofs.Exacts.{Adds, AddsNone, AddsOne, done_or_not, names_first, turn_adds, last_same}
 
 -- ---- items
 
@@ -71,10 +71,6 @@ no_items (outcome.Purge set n) items other none = none
 no_items outcome.Format items other none = none
 
 -- ---- machines that are alike but for items
-
-last_same : (xs : List Entry) (a b : Entry) → xs ++ a ∷ [] ≡ xs ++ b ∷ [] → a ≡ b
-last_same [] a b e = cc
-last_same (x ∷ xs) a b e = last_same xs a b (let rest : xs ++ a ∷ [] ≡ xs ++ b ∷ [] = cc in rest)
 
 -- an entry is what it is but for its items, and these
 entry_back : (a b : Entry) → plain_entry whole a ≡ plain_entry whole b → a.items ≡ b.items → a ≡ b

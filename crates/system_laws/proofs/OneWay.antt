@@ -22,14 +22,9 @@ use Rattle.fp_core.specs.Turning.{IsExactOfRegion, IsExactTurn}
 use Rattle.schedule_runs.specs.Ways as ways
 use Rattle.schedule_runs.specs.Ways.{Goes, NoneStarved, faults_in}
 use Rattle.system_laws.proofs.Determined.{of_turn, turn_is_one}
+use Rattle.plain_laws.proofs.Lists.{same_head, same_tail}
 
 -- ---- lists with a first element
-
-same_head : {X : Type 0} (x y : X) (xs ys : List X) → x ∷ xs ≡ y ∷ ys → x ≡ y
-same_head x y xs ys e = cc
-
-same_tail : {X : Type 0} (x y : X) (xs ys : List X) → x ∷ xs ≡ y ∷ ys → xs ≡ ys
-same_tail x y xs ys e = cc
 
 no_head : {X Any : Type 0} (x : X) (xs : List X) → [] ≡ x ∷ xs → Any
 no_head x xs e = absurd cc

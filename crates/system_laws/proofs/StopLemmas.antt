@@ -12,7 +12,6 @@ use Rattle.fp_site.proofs.Images.{durable_settles, settles_again, settles_conten
 use Rattle.log_groups.specs.Images.{IsAtRest}
 use Rattle.log_groups.specs.Kept.{lines_of_entries}
 use Rattle.fp_restart.proofs.Replays.{new_safe}
-use Rattle.sealed_runs.proofs.Parts.{entries_both}
 use Rattle.sealed_runs.proofs.SoundLogs.{text_told}
 use Rattle.fp_system.proofs.Ways.{comes_behind}
 use Rattle.fp_system.specs.Gives.{IsMigratedOr, IsSafeFor, Migrated, Moved, Ran, Went, format_entry}
@@ -23,6 +22,7 @@ use Rattle.fp_system.specs.Courses.{Course, GoesOnTo, Input, IsSoundFor, Point, 
 use Rattle.system_laws.specs.Stops.{Calls, HeldThrough, HoldsOn, HoldsSince, IsBegunAgain, IsTold, Lives, Standing, standing}
 use Rattle.system_laws.specs.Stops as stops
 use Rattle.fp_system.specs.declared.status.Status.{Status}
+use Rattle.model_laws.proofs.Entries.{entries-append}
 
 -- ---- one log
 
@@ -47,7 +47,7 @@ module _ (job : Job) (start : Standing) where
         later = has.later ++ more;
         sound =
             subst (IsSoundFor job start.format log)
-            (entries_both before groups ∙ ap (λ (es : List Entry). es ++ more) stood
+            (entries-append before groups ∙ ap (λ (es : List Entry). es ++ more) stood
             ∙ append_assoc start.entries has.later more) goes.sound;
         text = has.text ++ text;
         since = ap (λ (t : List ℕ). t ++ text) has.since ∙ append_assoc start.sent has.text text;

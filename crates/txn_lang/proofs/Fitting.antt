@@ -1,8 +1,7 @@
 -- Scripts that were read call what is defined, and none costs too much.
 use Rattle.std.proofs.Common.{◌≡◌, refl, sym, ap, subst, ◌∙◌, arith, ℕ, zero, suc, ◌+◌, ◌-◌, ◌≤◌, ◌<◌, List, [], ◌∷◌, ◌++◌, length, map, Bool, true, false, ◌&&◌, if◌then◌else◌, Option, Some, None, Result, Ok, Err, slice_get}
-use Rattle.std.specs.Prelude.{nat_lt, nat_le, position, option_map, is_some, min, not}
+use Rattle.std.specs.Prelude.{nat_lt, nat_le, position, ok_or, is_some, min, not}
 use Rattle.std.specs.List.{AllByRecursion, list_all}
-use Rattle.std.proofs.lemmas.Grind.{common_steps}
 use Rattle.std.proofs.lemmas.Bool.{and_parts}
 use Rattle.std.proofs.lemmas.Bool.Decides.{nat_tests}
 use Rattle.std.proofs.lemmas.List.Quantifiers.{position-Some}
@@ -18,7 +17,7 @@ use Rattle.fp_model.specs.declared.scripts.Statement.{Statement, roll-Statement,
 use Rattle.fp_model.specs.declared.scripts.Statement.TheOpen.{Statement-F}
 use Rattle.fp_model.specs.declared.scripts.Statement.TheOpen as statement
 use Rattle.fp_model.specs.declared.scripts.Statement.TheFolds.{fold-Statement, fold-roll-Statement}
-use Rattle.fp_model.specs.FitCalls.{are_fit, fits_statement, fits_step, is_some_few}
+use Rattle.fp_model.specs.FitCalls.{are_fit, fits_step, is_some_few}
 use Rattle.txn_lang.specs.declared.line.Line.{Line}
 use Rattle.txn_lang.specs.declared.line.Line.TheVariants as line
 use Rattle.fp_model.specs.declared.calls.Get.{Get}
@@ -33,19 +32,24 @@ use Rattle.txn_lang.specs.declared.line.Keyword.TheVariants as keyword
 use Rattle.txn_tokens.specs.declared.token.Token.{Token}
 use Rattle.txn_tokens.specs.Readings.{Reading, all_by, ended}
 use Rattle.fp_model.specs.Readings.{◌>>=◌}
-use Rattle.txn_tokens.specs.Tokens.{or_syntax, tokens_of}
+use Rattle.txn_tokens.specs.Tokens.{run, behind as left_behind, tokens_of}
 use Rattle.txn_tokens.specs.Parts.{word_at, variable_at, operand_at, comparison_at, count_at, key_at, operands_in, ssas_in, fsa_at, fsas_in, fields_in, one_to_255}
-use Rattle.txn_tokens.specs.Lookups.{are_known, db_by, db_of, dedb_ssas, get_ssas, has_name, is_msdb, isrt_count, isrt_fields, isrt_ssas, or_unknown, segment_of, types_of}
+use Rattle.txn_tokens.specs.Lookups.{are_known, db_of, dedb_ssas, get_ssas, has_name, is_msdb, isrt_fields, isrt_ssas, segment_of, types_of}
+use Rattle.txn_tokens.proofs.LookupLemmas.{either_place, db_by_lists}
 use Rattle.txn_lang.specs.Suiting.{all_suit, has_types, is_defined, names_new, suits_step}
 use Rattle.txn_tokens.specs.declared.written.WrittenSsa.{WrittenSsa}
 use Rattle.fp_model.specs.Calls.{OnMsdb, OnDedb, Nowhere, dedb_target, target_of}
 use Rattle.fp_model.specs.declared.definitions.Kind.TheVariants.{Fold}
 use Rattle.fp_model.specs.declared.definitions.SegDef.{SegDef}
 use Rattle.fp_model.specs.declared.scripts.SsaText.{SsaText}
-use Rattle.std.specs.Option.{option_map_or}
-use Rattle.txn_lang.specs.Statements.{before_fields, dlet_line, fld_line, from_fields, get_line, if_line, isrt_line, keyword_at, line_behind, repeat_line, repl_line, reply_line, rolb_line, set_line, set_rest, tran_line, whole}
-use Rattle.txn_lang.specs.Grammar.{AreScriptsOf, Read, and_then, fault_of_script, in_front, is_ascii, is_skipped, line_in, lines_in, numbered, or_later, script_fault, scripts_fault, statement_in}
+use Rattle.std.specs.Option.{option_map_or, option_or}
+use Rattle.txn_lang.specs.Statements.{alone, dlet_line, fld_line, get_line, if_line, is_before_fields, isrt_line, keyword_at, line_behind, repl_line, set_line, set_rest, whole}
+use Rattle.txn_lang.specs.Grammar.{AreScriptsOf, Read, is_ascii, is_skipped, line_in, lines_in, numbered, script_fault, scripts_fault, statement_in}
+use Rattle.txn_lang.specs.inside.Building.{fault_of_script}
+use Rattle.txn_lang.proofs.TextLemmas.{and_then, in_front}
 use Rattle.txn_lang.specs.Blocks.{Context, at_top, stands, choice, loop, AreStatements, none, one, if_end, if_else_end, repeat_end, AreScripts, no_script, script}
+use Rattle.std.proofs.lemmas.Option.{slice_get_past}
+use Rattle.plain_laws.proofs.Places.{get_there}
 
 -- how one statement is judged: blocks by all in them, and what is no call isn't looked at
 pub record Judges (step : Statement-F Bool → Bool) : Type 0 where
@@ -183,8 +187,8 @@ module _ (defs : Defs) (step : Statement-F Bool → Bool) (judges : Judges step)
     (calls : CallLinesFit defs step judges) where
   plain_fits : (x : Statement-F Statement) (tokens : List Token)
       → step (map-Statement _ _ (fold-Statement Bool step) x) ≡ true
-      → Holds (LineFits step judges) (ended (whole (roll-Statement x)) tokens)
-  plain_fits x tokens h = at_end (LineFits step judges) (whole (roll-Statement x)) tokens (rolled step x h)
+      → Holds (LineFits step judges) (ended (whole x) tokens)
+  plain_fits x tokens h = at_end (LineFits step judges) (whole x) tokens (rolled step x h)
 
   set_fits : (tokens : List Token) → Holds (LineFits step judges) (set_line tokens)
   unfolding set_line
@@ -193,19 +197,20 @@ module _ (defs : Defs) (step : Statement-F Bool → Bool) (judges : Judges step)
       behind (LineFits step judges) (operand_at variable.1) _ (λ first e2.
       behind (LineFits step judges) (set_rest first.1) _ (λ rest e3. rolled step (statement.Set variable.0 first.0 rest) (judges.sets variable.0 first.0 rest))))
 
-  reply_fits : (tokens : List Token) → Holds (LineFits step judges) (reply_line tokens)
-  unfolding reply_line
+  reply_fits : (tokens : List Token) → Holds (LineFits step judges)
+      (operands_in tokens >>= λ operands. Ok (whole (statement.Reply operands)))
   reply_fits tokens = behind (LineFits step judges) (operands_in tokens) _
       (λ operands e1. rolled step (statement.Reply operands) (judges.replies operands))
 
-  rolb_fits : (tokens : List Token) → Holds (LineFits step judges) (rolb_line tokens)
-  unfolding rolb_line
+  rolb_fits : (tokens : List Token) → Holds (LineFits step judges)
+      (count_at 0 98 tokens >>= alone (λ code. whole (statement.Roll code)))
   rolb_fits tokens = behind (LineFits step judges) (count_at 0 98 tokens) _
       (λ code e1. plain_fits (statement.Roll code.0) code.1 (judges.rolls code.0))
 
-  block_line_fits : (tokens : List Token) → Holds (LineFits step judges) (tran_line tokens)
-      × Holds (LineFits step judges) (if_line tokens) × Holds (LineFits step judges) (repeat_line tokens)
-  unfolding tran_line if_line repeat_line
+  block_line_fits : (tokens : List Token) → Holds (LineFits step judges) (word_at tokens >>= alone line.Tran)
+      × Holds (LineFits step judges) (if_line tokens)
+      × Holds (LineFits step judges) (count_at 1 10000 tokens >>= alone line.Repeat)
+  unfolding if_line
   block_line_fits tokens = (
     behind (LineFits step judges) (word_at tokens) _ (λ name e. at_end (LineFits step judges) (line.Tran name.0) name.1 tt),
     behind (LineFits step judges) (operand_at tokens) _ (λ left e1. behind (LineFits step judges) (comparison_at left.1) _
@@ -250,7 +255,7 @@ module _ (defs : Defs) (step : Statement-F Bool → Bool) (judges : Judges step)
   statement_fits number context bytes =
       behind ReadFits (tokens_of bytes) _ (λ tokens e1.
       behind ReadFits (keyword_at tokens) _ (λ k e2.
-      behind ReadFits (or_syntax (stands number k.0 context)) _ (λ next e3.
+      behind ReadFits (ok_or (stands number k.0 context) Syntax) _ (λ next e3.
       behind ReadFits (line_behind defs k.0 k.1) _ (λ said e4. known (are_known defs tokens) said next
       (of_line (line_fits k.0 k.1) e4)))))
 
@@ -308,7 +313,7 @@ fits_judges defs = record {
 module _ (defs : Defs) (no_dedbs : defs.dedbs ≡ []) where
   -- a name of a database is that of a main storage database
   named : (o : Option ℕ) (db : ℕ) (name : Name) → position (λ def. has_name name def.name) defs.msdbs ≡ o
-      → db_by o None (length defs.msdbs) ≡ Ok db → nat_lt db (length defs.msdbs) ≡ true
+      → ok_or (either_place o None (length defs.msdbs)) UnknownName ≡ Ok db → nat_lt db (length defs.msdbs) ≡ true
   named None db name e f = absurd cc
   named (Some place) db name e f =
       let found = position-Some (λ (def : MsdbDef). has_name name def.name) defs.msdbs place nothing e in
@@ -320,10 +325,11 @@ module _ (defs : Defs) (no_dedbs : defs.dedbs ≡ []) where
       nothing = record { name = name; dynamic = false; fields = []; length = 0; load = [] }
 
   is_known_db : (name : Name) (db : ℕ) → db_of defs name ≡ Ok db → nat_lt db (length defs.msdbs) ≡ true
-  unfolding db_of
   is_known_db name db e =
-      named (position (λ def. has_name name def.name) defs.msdbs) db name refl
-      (rw no_dedbs at e)
+      let read : ok_or (either_place (position (λ def. has_name name def.name) defs.msdbs)
+      (position (λ def. has_name name def.name) defs.dedbs) (length defs.msdbs)) UnknownName ≡ Ok db =
+      sym (db_by_lists defs name) ∙ e in
+      named (position (λ def. has_name name def.name) defs.msdbs) db name refl (rw no_dedbs at read)
 
   get_fits : (get : Get) (hold : Bool) (tokens : List Token) → Holds (LineFits (fits_step defs) (fits_judges defs)) (get_line defs get hold tokens)
   unfolding get_line
@@ -348,8 +354,8 @@ module _ (defs : Defs) (no_dedbs : defs.dedbs ≡ []) where
   unfolding isrt_line
   isrt_fits tokens =
       behind (LineFits (fits_step defs) (fits_judges defs)) (word_at tokens) _ (λ database e1.
-      behind (LineFits (fits_step defs) (fits_judges defs)) (ssas_in (before_fields database.1)) _ (λ written e2.
-      behind (LineFits (fits_step defs) (fits_judges defs)) (fields_in (from_fields database.1)) _ (λ given e3.
+      behind (LineFits (fits_step defs) (fits_judges defs)) (ssas_in (run is_before_fields database.1)) _ (λ written e2.
+      behind (LineFits (fits_step defs) (fits_judges defs)) (fields_in (left_behind is_before_fields database.1)) _ (λ given e3.
       behind (LineFits (fits_step defs) (fits_judges defs)) (db_of defs database.0) _ (λ db e4.
       behind (LineFits (fits_step defs) (fits_judges defs)) (isrt_ssas defs db written) _ (λ ssas e5.
       behind (LineFits (fits_step defs) (fits_judges defs)) (isrt_fields defs db ssas given) _
@@ -390,17 +396,6 @@ suits_judges defs = record {
   rolls = λ code. refl;
 }
 
--- what stands within a list, and what doesn't
-stands_within : {A : Type 0} (xs : List A) (n : ℕ) → n < length xs → (x : A) × (slice_get xs n ≡ Some x)
-stands_within [] n less = absurd (omega arith)
-stands_within (x ∷ xs) zero less = (x, refl)
-stands_within (x ∷ xs) (suc n) less = stands_within xs n (omega arith)
-
-stands_beyond : {A : Type 0} (xs : List A) (n : ℕ) → length xs ≤ n → slice_get xs n ≡ None
-stands_beyond [] n beyond = refl
-stands_beyond (x ∷ xs) zero beyond = absurd (omega arith)
-stands_beyond (x ∷ xs) (suc n) beyond = stands_beyond xs n (omega arith)
-
 -- what a part that was read was made of
 parts_of : {A B : Type 0} (r : Reading A) (f : A → Reading B) (y : B) → (r >>= f) ≡ Ok y
     → (x : A) × (r ≡ Ok x) × (f x ≡ Ok y)
@@ -415,7 +410,7 @@ type_within types name segment e = by (position (λ def. has_name name def.name)
     nothing : SegDef
     nothing = record { name = name; parent = None; sequential = false; fields = []; length = 0 }
 
-    by : (o : Option ℕ) → position (λ (def : SegDef). has_name name def.name) types ≡ o → or_unknown o ≡ Ok segment
+    by : (o : Option ℕ) → position (λ (def : SegDef). has_name name def.name) types ≡ o → ok_or o UnknownName ≡ Ok segment
         → segment < length types
     by None is f = absurd cc
     by (Some place) is f =
@@ -466,18 +461,18 @@ module _ (defs : Defs) where
     where
       main : db < length defs.msdbs → Kind_of db
       main within =
-          let found = stands_within defs.msdbs db within in
+          let found = get_there defs.msdbs db within in
           is_main found.0 (grind (arith, nat_tests, within))
           (ap (λ (o : Option MsdbDef). option_map_or (λ def. OnMsdb def db) o (dedb_target defs (db - length defs.msdbs)))
           found.1)
 
       entry : length defs.msdbs ≤ db → Kind_of db
       entry beyond =
-          let found = stands_within defs.dedbs (db - length defs.msdbs) (omega (arith, less, beyond)) in
+          let found = get_there defs.dedbs (db - length defs.msdbs) (omega (arith, less, beyond)) in
           is_entry found.0 (grind (arith, nat_tests, beyond))
           (ap (λ (o : Option DedbDef). option_map_or (λ dedb. dedb.segments) o []) found.1)
           (ap (λ (o : Option MsdbDef). option_map_or (λ def. OnMsdb def db) o (dedb_target defs (db - length defs.msdbs)))
-          (stands_beyond defs.msdbs db beyond)
+          (slice_get_past defs.msdbs db beyond)
           ∙ ap (λ (o : Option DedbDef). option_map_or (λ def. OnDedb def (db - length defs.msdbs)) o Nowhere) found.1)
 
       by : (b : Bool) → nat_lt db (length defs.msdbs) ≡ b → Kind_of db
@@ -486,10 +481,9 @@ module _ (defs : Defs) where
 
   -- a name of a database is that of one
   name_of : (name : Name) (db : ℕ) → db_of defs name ≡ Ok db → Kind_of db
-  unfolding db_of
   name_of name db e =
       by (position (λ def. has_name name def.name) defs.msdbs) (position (λ def. has_name name def.name) defs.dedbs) refl
-      refl e
+      refl (sym (db_by_lists defs name) ∙ e)
     where
       no_main : MsdbDef
       no_main = record { name = name; dynamic = false; fields = []; length = 0; load = [] }
@@ -499,7 +493,7 @@ module _ (defs : Defs) where
 
       by : (o p : Option ℕ) → position (λ (def : MsdbDef). has_name name def.name) defs.msdbs ≡ o
           → position (λ (def : DedbDef). has_name name def.name) defs.dedbs ≡ p
-          → db_by o p (length defs.msdbs) ≡ Ok db
+          → ok_or (either_place o p (length defs.msdbs)) UnknownName ≡ Ok db
           → Kind_of db
       by (Some place) p is other f =
           let found = position-Some (λ (def : MsdbDef). has_name name def.name) defs.msdbs place no_main is in
@@ -527,26 +521,36 @@ module _ (defs : Defs) where
       ∙ subst (λ (ts : List SegDef). list_all (λ (ssa : SsaText). nat_lt ssa.segment (length ts)) ssas ≡ true) types
       (named_types (types_of defs db) written ssas read)
 
+  no_ok : (b : Bool) (ssas : List SsaText) → b ≡ false → (if b then Ok [] else Err Syntax) ≡ Ok ssas → ⊥
+  no_ok true ssas is e = absurd cc
+  no_ok false ssas is e = absurd cc
+
+  some_ok : (b : Bool) (r : Reading (List SsaText)) (ssas : List SsaText) → b ≡ false
+      → (if b then Err Syntax else r) ≡ Ok ssas → r ≡ Ok ssas
+  some_ok true r ssas is e = absurd cc
+  some_ok false r ssas is e = e
+
+  -- on a data entry database there is one at least
+  isrt_some : (db : ℕ) (written : List WrittenSsa) (ssas : List SsaText) → is_msdb defs db ≡ false
+      → isrt_ssas defs db written ≡ Ok ssas
+      → (1 ≤ length written) × (dedb_ssas (types_of defs db) written ≡ Ok ssas)
+  unfolding isrt_ssas
+  isrt_some db [] ssas is e = absurd (no_ok (is_msdb defs db) ssas is e)
+  isrt_some db (w ∷ ws) ssas is e = (omega arith, some_ok (is_msdb defs db) _ ssas is e)
+
   isrt_suits : (db : ℕ) (written : List WrittenSsa) (ssas : List SsaText) → Kind_of db
       → isrt_ssas defs db written ≡ Ok ssas
       → (has_types (target_of defs db) ssas && names_new (target_of defs db) ssas) ≡ true
-  unfolding isrt_ssas
   isrt_suits db written ssas (is_main def is target) e = ap (λ t. has_types t ssas && names_new t ssas) target
   isrt_suits db written ssas (is_entry def is types target) e =
-      let counted = parts_of (isrt_count (is_msdb defs db) written) _ ssas e in
-      let some = counted_some written counted.0 (ap (λ b. isrt_count b written) (sym is) ∙ counted.1) in
-      let as_many = named_count (types_of defs db) counted.0 ssas counted.2 in
+      let read = isrt_some db written ssas is e in
+      let some = read.0 in
+      let as_many = named_count (types_of defs db) written ssas read.1 in
       ap (λ t. has_types t ssas && names_new t ssas) target
       ∙ both (suits_step defs) (suits_judges defs) _ _
       (subst (λ (ts : List SegDef). list_all (λ (ssa : SsaText). nat_lt ssa.segment (length ts)) ssas ≡ true) types
-      (named_types (types_of defs db) counted.0 ssas counted.2))
+      (named_types (types_of defs db) written ssas read.1))
       (grind (arith, nat_tests, some, as_many))
-    where
-      counted_some : (written counted : List WrittenSsa) → isrt_count false written ≡ Ok counted → 1 ≤ length counted
-      counted_some [] counted e = absurd cc
-      counted_some (w ∷ ws) counted e =
-          let same : w ∷ ws ≡ counted = cc in
-          subst (λ (l : List WrittenSsa). 1 ≤ length l) same (omega arith)
 
   abbrev Suits : Line → Type 0
   Suits = LineFits (suits_step defs) (suits_judges defs)
@@ -571,8 +575,8 @@ module _ (defs : Defs) where
         (few_fsas key.1 fsas e3))))));
     isrt = λ tokens.
         behind Suits (word_at tokens) _ (λ database e1.
-        behind Suits (ssas_in (before_fields database.1)) _ (λ written e2.
-        behind Suits (fields_in (from_fields database.1)) _ (λ given e3.
+        behind Suits (ssas_in (run is_before_fields database.1)) _ (λ written e2.
+        behind Suits (fields_in (left_behind is_before_fields database.1)) _ (λ given e3.
         behind Suits (db_of defs database.0) _ (λ db e4.
         behind Suits (isrt_ssas defs db written) _ (λ ssas e5.
         behind Suits (isrt_fields defs db ssas given) _ (λ fields e6.
@@ -608,7 +612,7 @@ cheap_by false s e = either (nat_lt 10000 (cost s.statements)) refl e
     either false is e = let small : min 1000000000 (full_cost s.statements) ≤ 10000 = grind (arith, nat_tests, is) in
         omega (arith, small)
 
-none_later : (first later : Option ScriptFault) → or_later first later ≡ None → (first ≡ None) × (later ≡ None)
+none_later : (first later : Option ScriptFault) → option_or first later ≡ None → (first ≡ None) × (later ≡ None)
 none_later None later e = (refl, e)
 none_later (Some f) later e = absurd cc
 

@@ -5,3 +5,4 @@ pub mod NumberLemmas
 pub mod ParseLemmas
 pub mod OneMeaning
 pub mod Fitting
+pub mod KeywordLemmas

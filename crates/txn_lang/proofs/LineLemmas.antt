@@ -1,6 +1,6 @@
 -- What a line that was read is, by the word that it begins with, and what is open behind it.
 use Rattle.std.proofs.Common.{◌≡◌, ℕ, List, [], ◌∷◌, Bool, true, false, cond, Option, Some, None, Ok, Err, refl, sym, ap, subst, ◌∙◌, ◌⊎◌, inl, inr, ⊎_elim, length}
-use Rattle.std.specs.Prelude.{IsSome, is_some, ◌&&◌, nat_le, nat_lt, if◌then◌else◌, ℤ, pos, negsuc}
+use Rattle.std.specs.Prelude.{IsSome, is_some, ◌&&◌, nat_le, nat_lt, if◌then◌else◌, option_map, ◌≢◌, pos}
 use Rattle.std.specs.List.{list_all}
 use Rattle.std.proofs.lemmas.Bool.{leb-true}
 use Rattle.fp_model.specs.declared.name.Name.{Name}
@@ -14,22 +14,23 @@ use Rattle.fp_model.specs.declared.scripts.Statement.TheOpen.{Statement-F}
 use Rattle.fp_model.specs.Asking.{statement_cost}
 use Rattle.fp_model.proofs.ProgramLemmas.{statement_cost_roll}
 use Rattle.txn_tokens.specs.declared.token.Token.{Token}
-use Rattle.txn_tokens.specs.declared.token.Token.TheVariants.{Word, Number, Text, Hash, Field, Sign}
+use Rattle.txn_tokens.specs.declared.token.Token.TheVariants.{Number}
 use Rattle.txn_tokens.specs.declared.fault.LineFault.{LineFault}
 use Rattle.txn_tokens.specs.declared.fault.LineFault.TheVariants.{Syntax, UnknownName, Memory}
 use Rattle.txn_lang.specs.declared.line.Keyword.{Keyword}
 use Rattle.txn_lang.specs.declared.line.Keyword.TheVariants as keyword
 use Rattle.txn_lang.specs.declared.line.Line.{Line}
 use Rattle.txn_lang.specs.declared.line.Line.TheVariants as line
-use Rattle.txn_tokens.specs.Readings.{Reading, Fails, ended}
+use Rattle.txn_tokens.specs.Readings.{Reading, ended}
 use Rattle.fp_model.specs.Readings.{◌>>=◌}
-use Rattle.txn_tokens.specs.Tokens.{tokens_of}
-use Rattle.txn_tokens.specs.Parts.{token_in, count_within, count_of, count_at, word_at, variable_at, operand_at, comparison_at, key_at, operands_in, ssas_in, fsas_in, fields_in}
+use Rattle.txn_tokens.specs.Tokens.{run, behind, tokens_of}
+use Rattle.txn_tokens.specs.Parts.{count_at, word_at, variable_at, operand_at, comparison_at, key_at, operands_in, ssas_in, fsas_in, fields_in}
 use Rattle.txn_tokens.specs.Lookups.{are_known, db_of, get_ssas, isrt_ssas, isrt_fields}
-use Rattle.txn_lang.specs.Statements.{keyword_at, before_fields, from_fields, tran_line, set_rest, set_line, if_line, repeat_line, reply_line, rolb_line, get_line, fld_line, isrt_line, repl_line, dlet_line, line_behind}
-use Rattle.txn_lang.specs.Blocks.{Choice, Loop, Context, begun, within_script, opened, with_open, in_loop, else_in, end_in, stands}
+use Rattle.txn_lang.specs.Statements.{keyword_at, whole, alone, is_before_fields, set_rest, set_line, if_line, get_line, fld_line, isrt_line, repl_line, dlet_line, line_behind}
+use Rattle.txn_lang.specs.Blocks.{Choice, Loop, Open, Context, begun, opened, opens, else_in, end_in, stands}
 use Rattle.txn_lang.specs.Grammar.{is_ascii, is_skipped, statement_in, line_in}
 use Rattle.txn_lang.specs.inside.Building.{IsCount, Follows, context_behind, or_same, can_stand, said_in}
+use Rattle.plain_laws.proofs.Options.{is_some_there}
 
 -- ---- what a reading gives has a property
 
@@ -81,30 +82,18 @@ IsOf keyword.Isrt said = IsWhole said
 IsOf keyword.Repl said = IsWhole said
 IsOf keyword.Dlet said = IsWhole said
 
-count_fits : (n : ℤ) → Has IsCount (count_within 1 10000 n)
-count_fits (pos n) = by_test (nat_le 1 n) (nat_le n 10000) refl refl
+count_has : (tokens : List Token) → Has (λ x. IsCount x.0) (count_at 1 10000 tokens)
+unfolding count_at
+count_has (Number (pos n) ∷ ts) = by_test (nat_le 1 n) (nat_le n 10000) refl refl
   where
-    by_test : (a b : Bool) → nat_le 1 n ≡ a → nat_le n 10000 ≡ b → Has IsCount (if a && b then Ok n else Err Syntax)
+    by_test : (a b : Bool) → nat_le 1 n ≡ a → nat_le n 10000 ≡ b
+        → Has (λ (x : ℕ × List Token). IsCount x.0) (if a && b then Ok (n, ts) else Err Syntax)
     by_test true true p q = (leb-true 1 n p, leb-true n 10000 q)
     by_test true false p q = tt
     by_test false b p q = tt
-count_fits (negsuc n) = tt
+count_has _ = tt
 
-count_token : (t : Token) → Has IsCount (count_of 1 10000 t)
-count_token (Number n) = count_fits n
-count_token (Word name assigned) = tt
-count_token (Text text) = tt
-count_token (Hash digit) = tt
-count_token (Field name) = tt
-count_token (Sign byte) = tt
-
-count_has : (tokens : List Token) → Has (λ x. IsCount x.0) (count_at 1 10000 tokens)
-unfolding count_at
-count_has tokens = has_all _ (token_in tokens) _ (λ token. has_bind _ (count_of 1 10000 token.0) _
-    (λ n is. has_ok IsCount _ n (count_token token.0) is))
-
-tran_has : (tokens : List Token) → Has (IsOf keyword.Tran) (tran_line tokens)
-unfolding tran_line
+tran_has : (tokens : List Token) → Has (IsOf keyword.Tran) (word_at tokens >>= alone line.Tran)
 tran_has tokens = has_all _ (word_at tokens) _ (λ name. has_ended (IsOf keyword.Tran) _ name.1 (name.0, refl))
 
 if_has : (tokens : List Token) → Has (IsOf keyword.If) (if_line tokens)
@@ -114,8 +103,7 @@ if_has tokens =
     (λ comparison. has_all _ (operand_at comparison.1) _ (λ right.
     has_ended (IsOf keyword.If) _ right.1 (left.0, comparison.0, right.0, refl))))
 
-repeat_has : (tokens : List Token) → Has (IsOf keyword.Repeat) (repeat_line tokens)
-unfolding repeat_line
+repeat_has : (tokens : List Token) → Has (IsOf keyword.Repeat) (count_at 1 10000 tokens >>= alone line.Repeat)
 repeat_has tokens =
     has_bind _ (count_at 1 10000 tokens) _ (λ times is.
     has_ended (IsOf keyword.Repeat) _ times.1 (
@@ -131,13 +119,13 @@ set_has tokens =
     (λ first. has_all _ (set_rest first.1) _ (λ rest.
     whole_is (statement.Set variable.0 first.0 rest) (statement_cost_roll (statement.Set variable.0 first.0 rest)))))
 
-reply_has : (tokens : List Token) → Has IsWhole (reply_line tokens)
-unfolding reply_line
+reply_has : (tokens : List Token)
+    → Has IsWhole (operands_in tokens >>= λ operands. Ok (whole (statement.Reply operands)))
 reply_has tokens = has_all _ (operands_in tokens) _
     (λ operands. whole_is (statement.Reply operands) (statement_cost_roll (statement.Reply operands)))
 
-rolb_has : (tokens : List Token) → Has IsWhole (rolb_line tokens)
-unfolding rolb_line
+rolb_has : (tokens : List Token)
+    → Has IsWhole (count_at 0 98 tokens >>= alone (λ code. whole (statement.Roll code)))
 rolb_has tokens =
     has_all _ (count_at 0 98 tokens) _ (λ code. has_ended IsWhole _ code.1
     (whole_is (statement.Roll code.0) (statement_cost_roll (statement.Roll code.0))))
@@ -159,8 +147,8 @@ fld_has defs tokens =
 isrt_has : (defs : Defs) (tokens : List Token) → Has IsWhole (isrt_line defs tokens)
 unfolding isrt_line
 isrt_has defs tokens =
-    has_all _ (word_at tokens) _ (λ database. has_all _ (ssas_in (before_fields database.1)) _
-    (λ written. has_all _ (fields_in (from_fields database.1)) _ (λ given.
+    has_all _ (word_at tokens) _ (λ database. has_all _ (ssas_in (run is_before_fields database.1)) _
+    (λ written. has_all _ (fields_in (behind is_before_fields database.1)) _ (λ given.
     has_all _ (db_of defs database.0) _ (λ db. has_all _ (isrt_ssas defs db written) _
     (λ ssas. has_all _ (isrt_fields defs db ssas given) _ (λ fields.
     whole_is (statement.Isrt db ssas fields) (statement_cost_roll (statement.Isrt db ssas fields))))))))
@@ -206,11 +194,19 @@ within_is false o next is = absurd cc
 some_is : {A : Type 0} (x y : A) → Some x ≡ Some y → y ≡ x
 some_is x y is = cc
 
-room_is : (b : Bool) (x next : Context) → cond b (Some x) None ≡ Some next → next ≡ x
-room_is true x next is = cc
-room_is false x next is = absurd cc
+-- the context with these blocks
+abbrev with_blocks : Context → List Open → Context
+with_blocks context blocks = record context { open_blocks = blocks }
 
-open_is : (context : Context) (blocks : Option _) (next : Context) → with_open context blocks ≡ Some next
+abbrev with_some : Context → Option (List Open) → Option Context
+with_some context blocks = option_map (with_blocks context) blocks
+
+room_is : (b : Bool) (context : Context) (blocks : List Open) (next : Context)
+    → with_some context (cond b (Some blocks) None) ≡ Some next → next ≡ with_blocks context blocks
+room_is true context blocks next is = cc
+room_is false context blocks next is = absurd cc
+
+open_is : (context : Context) (blocks : Option (List Open)) (next : Context) → with_some context blocks ≡ Some next
     → IsSome blocks × (next ≡ or_same context blocks)
 open_is context None next is = absurd cc
 open_is context (Some blocks) next is = (refl, cc)
@@ -219,7 +215,7 @@ abbrev Goes : ℕ → Context → Context → Line → Type 0
 Goes number context next said = Follows said context × (next ≡ context_behind number said context)
 
 whole_goes : (number : ℕ) (said : Line) (context next : Context) → IsWhole said
-    → within_script context (Some context) ≡ Some next → Goes number context next said
+    → cond context.has_begun (Some context) None ≡ Some next → Goes number context next said
 whole_goes number said context next is stood =
     let in_script = within_is context.has_begun (Some context) next stood in
     subst (Goes number context next) (sym is.2) ((in_script.0, is.1), some_is context next in_script.1)
@@ -230,22 +226,25 @@ unfolding stands
 line_goes number keyword.Tran said context next is stood =
     subst (Goes number context next) (sym is.1) (tt, some_is (begun context) next stood)
 line_goes number keyword.If said context next is stood =
-    let in_script = within_is context.has_begun (opened Choice number context) next stood in
-    subst (Goes number context next) (sym is.3) (in_script.0, room_is _ _ next in_script.1)
+    let in_script = within_is context.has_begun
+    (with_some context (opened Choice number context.open_blocks)) next stood in
+    subst (Goes number context next) (sym is.3) (in_script.0, room_is _ context _ next in_script.1)
 line_goes number keyword.Else said context next is stood =
-    let in_script = within_is context.has_begun (with_open context (else_in context.open_blocks)) next stood in
+    let in_script = within_is context.has_begun (with_some context (else_in context.open_blocks)) next stood in
     let open_block = open_is context (else_in context.open_blocks) next in_script.1 in
     subst (Goes number context next) (sym is) ((in_script.0, open_block.0), open_block.1)
 line_goes number keyword.End said context next is stood =
-    let in_script = within_is context.has_begun (with_open context (end_in context.open_blocks)) next stood in
+    let in_script = within_is context.has_begun (with_some context (end_in context.open_blocks)) next stood in
     let open_block = open_is context (end_in context.open_blocks) next in_script.1 in
     subst (Goes number context next) (sym is) ((in_script.0, open_block.0), open_block.1)
 line_goes number keyword.Repeat said context next is stood =
-    let in_script = within_is context.has_begun (opened Loop number context) next stood in
-    subst (Goes number context next) (sym is.2) ((in_script.0, is.1), room_is _ _ next in_script.1)
+    let in_script = within_is context.has_begun
+    (with_some context (opened Loop number context.open_blocks)) next stood in
+    subst (Goes number context next) (sym is.2) ((in_script.0, is.1), room_is _ context _ next in_script.1)
 line_goes number keyword.Break said context next is stood =
-    let in_script = within_is context.has_begun (in_loop context) next stood in
-    subst (Goes number context next) (sym is.2) ((in_script.0, is.1), room_is _ _ next in_script.1)
+    let in_script = within_is context.has_begun
+    (with_some context (opens number keyword.Break context.open_blocks)) next stood in
+    subst (Goes number context next) (sym is.2) ((in_script.0, is.1), room_is _ context _ next in_script.1)
 line_goes number keyword.Set said context next is stood = whole_goes number said context next is stood
 line_goes number keyword.Reply said context next is stood = whole_goes number said context next is stood
 line_goes number keyword.Rolb said context next is stood = whole_goes number said context next is stood
@@ -281,21 +280,24 @@ guard_err : {A : Type 0} (b : Bool) (x : A) (c d : LineFault) → cond b (Ok x) 
 guard_err true x c d e = absurd cc
 guard_err false x c d e = (refl, cc)
 
-same_some : (b r : Bool) (x y : Context) → is_some (cond b (cond r (Some x) None) None) ≡ is_some
-    (cond b (cond r (Some y) None) None)
-same_some true true x y = refl
-same_some true false x y = refl
-same_some false r x y = refl
+same_some : (context : Context) (b r : Bool) (x y : List Open)
+    → is_some (cond b (with_some context (cond r (Some x) None)) None) ≡ is_some
+    (cond b (with_some context (cond r (Some y) None)) None)
+same_some context true true x y = refl
+same_some context true false x y = refl
+same_some context false r x y = refl
 
 -- the number of a line doesn't say whether it can stand there
 any_number : (number : ℕ) (k : Keyword) (context : Context)
     → is_some (stands 0 k context) ≡ is_some (stands number k context)
 unfolding stands
 any_number number keyword.Tran context = refl
-any_number number keyword.If context = same_some context.has_begun (nat_lt (length context.open_blocks) 64) _ _
+any_number number keyword.If context = same_some context context.has_begun
+    (nat_lt (length context.open_blocks) 64) _ _
 any_number number keyword.Else context = refl
 any_number number keyword.End context = refl
-any_number number keyword.Repeat context = same_some context.has_begun (nat_lt (length context.open_blocks) 64) _ _
+any_number number keyword.Repeat context = same_some context context.has_begun
+    (nat_lt (length context.open_blocks) 64) _ _
 any_number number keyword.Break context = refl
 any_number number keyword.Set context = refl
 any_number number keyword.Reply context = refl
@@ -305,10 +307,6 @@ any_number number keyword.Fld context = refl
 any_number number keyword.Isrt context = refl
 any_number number keyword.Repl context = refl
 any_number number keyword.Dlet context = refl
-
-is_there : {A : Type 0} (o : Option A) → is_some o ≡ true → (x : A) × (o ≡ Some x)
-is_there (Some x) is = (x, refl)
-is_there None is = absurd cc
 
 not_there : {A : Type 0} (o : Option A) → is_some o ≡ false → o ≡ None
 not_there None is = refl
@@ -344,7 +342,7 @@ module _ (defs : Defs) (context : Context) where
       let l = bind_ok (line_behind defs b.0.0 b.0.1)
       (λ said. if are_known defs a.0 then Ok (b.0.0, said) else Err UnknownName) read s.2 in
       let known = guard_ok (are_known defs a.0) (b.0.0, l.0) read UnknownName l.2 in
-      let stood = is_there (stands number b.0.0 context)
+      let stood = is_some_there (stands number b.0.0 context)
       (sym (any_number number b.0.0 context) ∙ (guard_ok (is_some (stands 0 b.0.0 context)) tt s.0 Syntax s.1).0) in
       let goes = line_goes number b.0.0 l.0 context stood.0 (has_ok (IsOf b.0.0) _ l.0 (line_has defs b.0.0 b.0.1) l.1)
       stood.1 in
@@ -373,7 +371,7 @@ module _ (defs : Defs) (context : Context) where
       let nothing = not_there (stands number b.0.0 context) (sym (any_number number b.0.0 context) ∙ stood.0) in
       rw (a.1, b.1, nothing) (ap (λ (c : LineFault). Err c) stood.1))
       (λ s.
-      let stood = is_there (stands number b.0.0 context)
+      let stood = is_some_there (stands number b.0.0 context)
       (sym (any_number number b.0.0 context) ∙ (guard_ok (is_some (stands 0 b.0.0 context)) tt s.0 Syntax s.1).0) in
       ⊎_elim
       (λ t. rw (a.1, b.1, stood.1, t) refl)
@@ -404,9 +402,7 @@ module _ (defs : Defs) (context : Context) where
   line_foreign number bytes foreign = rw foreign refl
 
   pub line_fails : (e : LineFault) (number : ℕ) (bytes : List ℕ) → list_all is_ascii bytes ≡ true
-      → is_skipped bytes ≡ false → Fails e (said_in defs context bytes)
-      → Fails e (line_in defs number context bytes)
+      → is_skipped bytes ≡ false → (e ≢ Memory → said_in defs context bytes ≡ Err e)
+      → e ≢ Memory → line_in defs number context bytes ≡ Err e
   unfolding line_in
-  line_fails Memory number bytes ascii some is = tt
-  line_fails Syntax number bytes ascii some is = rw (ascii, some) (refused number bytes Syntax is)
-  line_fails UnknownName number bytes ascii some is = rw (ascii, some) (refused number bytes UnknownName is)
+  line_fails e number bytes ascii some is other = rw (ascii, some) (refused number bytes e (is other))

@@ -1,43 +1,27 @@
 -- Scripts found by name: places in a list, and in a list with one script more.
 use Rattle.std.proofs.Common.{◌≡◌, ℕ, suc, ◌+◌, ◌≤◌, ◌<◌, List, [], ◌∷◌, ◌++◌, length, take, drop, drop-cons, get_or, Bool, true, false, cond, not, nat_lt, Option, Some, None, refl, sym, ap, subst, ◌∙◌, arith}
 use Rattle.std.specs.Prelude.{is_some, position, find, slice_get, option_map, option_and_then, ◌==◌}
-use Rattle.std.specs.List.{position_or_len}
+use Rattle.std.specs.Option.{option_or}
 use Rattle.std.specs.Cmp.Lexicographic.{texts_ties}
 use Rattle.std.specs.BTreeMap.{BTreeMap, get, is_at}
 use Rattle.std.proofs.lemmas.List.{take_more}
-use Rattle.std.proofs.lemmas.Bool.{lt-ltb, le-ltb, ltb-true, ltb-false, eqb-true, and_parts}
 use Rattle.fp_model.specs.declared.name.Name.{Name}
 use Rattle.fp_model.specs.declared.scripts.Script.{Script}
 use Rattle.fp_model.specs.Texts.{same_text}
 use Rattle.txn_lang.specs.declared.fault.ScriptFault.{ScriptFault}
 use Rattle.txn_lang.specs.declared.fault.ScriptFault.TheVariants as fault
 use Rattle.txn_lang.specs.Building.{Refuses}
-use Rattle.txn_lang.specs.Grammar.{fault_of_script, script_fault, scripts_fault, or_later}
+use Rattle.txn_lang.specs.Grammar.{script_fault, scripts_fault}
+use Rattle.txn_lang.specs.inside.Building.{fault_of_script}
+use Rattle.txn_tokens.proofs.LookupLemmas.{position_cons as first_place}
 use Rattle.txn_lang.specs.Numbers.{name_cmp, place_of, Indexes}
+use Rattle.model_laws.proofs.Texts.{same_text_is}
 
 -- ---- places
 
-next_place : (n len : ℕ) (b : Bool) → nat_lt n len ≡ b
-    → cond (nat_lt (1 + n) (suc len)) (Some (1 + n)) None ≡ option_map suc (cond (nat_lt n len) (Some n) None)
-next_place n len true is =
-    let lt : n < len = ltb-true n len is in
-    let more : nat_lt (1 + n) (suc len) ≡ true = lt-ltb _ _ (omega arith) in
-    let next : 1 + n ≡ suc n = omega arith in
-    rw (more, is) (ap (λ (k : ℕ). Some k) next)
-next_place n len false is =
-    let le : len ≤ n = ltb-false n len is in
-    let more : nat_lt (1 + n) (suc len) ≡ false = le-ltb _ _ (omega arith) in
-    rw (more, is) refl
-
-first_place : (b : Bool) (n len : ℕ)
-    → cond (nat_lt (cond (not b) (1 + n) 0) (suc len)) (Some (cond (not b) (1 + n) 0)) None ≡ cond b (Some 0)
-    (option_map suc (cond (nat_lt n len) (Some n) None))
-first_place true n len = let yes : nat_lt 0 (suc len) ≡ true = lt-ltb _ _ (omega arith) in rw yes refl
-first_place false n len = next_place n len (nat_lt n len) refl
-
 module _ {X : Type 0} (p : X → Bool) where
   position_cons : (x : X) (xs : List X) → position p (x ∷ xs) ≡ cond (p x) (Some 0) (option_map suc (position p xs))
-  position_cons x xs = first_place (p x) (position_or_len p xs) (length xs)
+  position_cons x xs = first_place p x xs
 
   mapped_none : (b : Bool) (o : Option ℕ) → cond b (Some 0) (option_map suc o) ≡ None → (b ≡ false) × (o ≡ None)
   mapped_none true o is = absurd cc
@@ -58,16 +42,16 @@ module _ {X : Type 0} (p : X → Bool) where
       position_cons x (xs ++ y ∷ []) ∙ ap (λ (o : Option ℕ). cond (p x) (Some 0) (option_map suc o)) (place_old xs y is)
       ∙ sym (position_cons x xs)
 
-  here_or_later : (b : Bool) (x : X) (o : Option ℕ) (f : Option X) → is_some o ≡ is_some f
+  here_option_or : (b : Bool) (x : X) (o : Option ℕ) (f : Option X) → is_some o ≡ is_some f
       → is_some (cond b (Some 0) (option_map suc o)) ≡ is_some (cond b (Some x) f)
-  here_or_later true x o f is = refl
-  here_or_later false x None f is = is
-  here_or_later false x (Some n) f is = is
+  here_option_or true x o f is = refl
+  here_option_or false x None f is = is
+  here_option_or false x (Some n) f is = is
 
   -- there is a place where something is found
   place_found : (xs : List X) → is_some (position p xs) ≡ is_some (find p xs)
   place_found [] = refl
-  place_found (x ∷ xs) = ap is_some (position_cons x xs) ∙ here_or_later (p x) x (position p xs) (find p xs)
+  place_found (x ∷ xs) = ap is_some (position_cons x xs) ∙ here_option_or (p x) x (position p xs) (find p xs)
       (place_found xs)
 
   at_place : (b : Bool) (x : X) (xs : List X) (o : Option ℕ) (f : Option X) → option_and_then (slice_get xs) o ≡ f
@@ -88,18 +72,8 @@ module _ {X : Type 0} (p : X → Bool) where
 same_name : (a b : Name) → is_at (name_cmp a) b ≡ same_text a.0 b.0
 same_name a b = sym (texts_ties a.0 b.0)
 
-text_is : (xs ys : List ℕ) → same_text xs ys ≡ true → xs ≡ ys
-text_is [] [] is = refl
-text_is [] (y ∷ ys) is = absurd cc
-text_is (x ∷ xs) [] is = absurd cc
-text_is (x ∷ xs) (y ∷ ys) is =
-    let parts = and_parts (x == y) (same_text xs ys) is in
-    let first : x ≡ y = eqb-true x y parts.0 in
-    let others : xs ≡ ys = text_is xs ys parts.1 in
-    rw (first, others) refl
-
 name_is : (a b : Name) → same_text a.0 b.0 ≡ true → a ≡ b
-name_is a b is = ap (λ (text : List ℕ). record { 0 = text }) (text_is a.0 b.0 is)
+name_is a b is = ap (λ (text : List ℕ). record { 0 = text }) (same_text_is a.0 b.0 is)
 
 -- an earlier script has the name, by the map and by the model
 pub seen_is : (numbers : BTreeMap Name ℕ) (earlier : List Script) (s : Script) → Indexes numbers earlier
@@ -139,13 +113,14 @@ indexes_more old new earlier s place at indexed fair put name =
 pub fault_more : (earlier : List Script) (s : Script) (more : List Script) → script_fault earlier s ≡ None
     → scripts_fault earlier (s ∷ more) ≡ scripts_fault (earlier ++ s ∷ []) more
 unfolding scripts_fault
-fault_more earlier s more fair = ap (λ (o : Option ScriptFault). or_later o (scripts_fault (earlier ++ s ∷ []) more))
+fault_more earlier s more fair = ap (λ (o : Option ScriptFault). option_or o (scripts_fault (earlier ++ s ∷ []) more))
     fair
 
 pub fault_here : (earlier : List Script) (s : Script) (more : List Script) (e : ScriptFault)
     → script_fault earlier s ≡ Some e → scripts_fault earlier (s ∷ more) ≡ Some e
 unfolding scripts_fault
-fault_here earlier s more e is = ap (λ (o : Option ScriptFault). or_later o (scripts_fault (earlier ++ s ∷ []) more)) is
+fault_here earlier s more e is =
+    ap (λ (o : Option ScriptFault). option_or o (scripts_fault (earlier ++ s ∷ []) more)) is
 
 pub fault_nothing : (earlier more : List Script) → more ≡ [] → scripts_fault earlier more ≡ None
 unfolding scripts_fault

@@ -1,6 +1,6 @@
 -- The lines of a text one after another, and what they give together.
 use Rattle.std.proofs.Common.{◌≡◌, ℕ, suc, ◌+◌, ◌≤◌, ◌<◌, List, [], ◌∷◌, ◌++◌, length, take, drop, Bool, true, false, cond, not, Result, Ok, Err, refl, sym, ap, ◌∙◌, append_assoc, arith}
-use Rattle.std.specs.Prelude.{◌==◌}
+use Rattle.std.specs.Prelude.{◌==◌, ◌≢◌}
 use Rattle.std.specs.List.{slice_split, onto_first, position_or_len}
 use Rattle.std.specs.Str.Lines.{lines_of_parts, strip_carriage_return}
 use Rattle.std.proofs.lemmas.List.{append-nil}
@@ -12,33 +12,14 @@ use Rattle.txn_tokens.specs.declared.fault.LineFault.{LineFault}
 use Rattle.txn_tokens.specs.declared.fault.LineFault.TheVariants.{Syntax, UnknownName, Memory}
 use Rattle.txn_lang.specs.declared.fault.ScriptFault.{ScriptFault}
 use Rattle.txn_lang.specs.declared.line.Line.{Line}
-use Rattle.txn_tokens.specs.Readings.{Reading, Fails}
+use Rattle.txn_tokens.specs.Readings.{Reading}
+use Rattle.fp_model.specs.Readings.{◌>>=◌}
 use Rattle.txn_lang.specs.Blocks.{Context}
-use Rattle.txn_lang.specs.Grammar.{Read, line_in, lines_in, at_line, in_front, and_then, numbered}
+use Rattle.txn_lang.specs.Grammar.{Read, line_in, lines_in, at_line, numbered}
 use Rattle.txn_lang.specs.Building.{Refuses}
+use Rattle.model_laws.proofs.Lines.{is_newline, split_is_cons, lines_at}
 
 -- ---- the first line of a text
-
-abbrev is_newline : ℕ → Bool
-is_newline b = b == 10
-
--- there is always a first part
-abbrev IsCons : List (List ℕ) → Type 0
-IsCons parts = (x : List ℕ) × (more : List (List ℕ)) × (parts ≡ x ∷ more)
-
-cons_by : (b : ℕ) (newline : Bool) (parts : List (List ℕ)) → IsCons parts
-    → IsCons (cond newline ([] ∷ parts) (onto_first b parts))
-cons_by b true parts is = ([], parts, refl)
-cons_by b false [] is = (b ∷ [], [], refl)
-cons_by b false (x ∷ more) is = (b ∷ x, more, refl)
-
-split_is_cons : (bytes : List ℕ) → IsCons (slice_split is_newline bytes)
-split_is_cons [] = ([], [], refl)
-split_is_cons (b ∷ bytes) = cons_by b (is_newline b) (slice_split is_newline bytes) (split_is_cons bytes)
-
-lines_at : (x : List ℕ) (parts : List (List ℕ)) → IsCons parts
-    → lines_of_parts (x ∷ parts) ≡ strip_carriage_return x ∷ lines_of_parts parts
-lines_at x parts is = rw is.2 refl
 
 -- up to a newline
 pub lines_first : (text : List ℕ) (place : ℕ) → place < length text → position_or_len is_newline text ≡ place
@@ -72,6 +53,20 @@ lines_last (b ∷ bytes) some le =
     ap lines_of_parts (split_whole (b ∷ bytes) le) ∙ rw no refl
 
 -- ---- what the lines give
+
+-- lines that were read before
+abbrev pub in_front : List Line → Result Read ScriptFault → Result Read ScriptFault
+in_front said r = r >>= λ read. Ok (record read { said = said ++ read.said })
+
+-- a line, and those behind it
+abbrev pub and_then : Result Read ScriptFault → (Context → Result Read ScriptFault) → Result Read ScriptFault
+and_then r f = r >>= λ read. in_front read.said (f read.context)
+
+syntax_is_other : Syntax ≢ Memory
+syntax_is_other same = absurd cc
+
+unknown_is_other : UnknownName ≢ Memory
+unknown_is_other same = absurd cc
 
 module _ (defs : Defs) where
   abbrev then_lines : ℕ → List (List ℕ) → Context → Result Read ScriptFault
@@ -110,14 +105,14 @@ module _ (defs : Defs) where
   -- a line was refused
   pub line_refused : (e : LineFault) (number : ℕ) (context : Context) (before : List Line) (bytes : List ℕ)
       (all more : List (List ℕ)) (total : Result Read ScriptFault)
-      → all ≡ bytes ∷ more → Fails e (line_in defs number context bytes)
+      → all ≡ bytes ∷ more → (e ≢ Memory → line_in defs number context bytes ≡ Err e)
       → in_front before (lines_in defs number context all) ≡ total
       → Refuses (at_line number e) (total ≡ Err (at_line number e))
   line_refused Memory number context before bytes all more total split is so_far = tt
   line_refused Syntax number context before bytes all more total split is so_far =
-      line_stops number context before bytes all more Syntax total split is so_far
+      line_stops number context before bytes all more Syntax total split (is syntax_is_other) so_far
   line_refused UnknownName number context before bytes all more total split is so_far =
-      line_stops number context before bytes all more UnknownName total split is so_far
+      line_stops number context before bytes all more UnknownName total split (is unknown_is_other) so_far
 
   -- no line is left
   pub lines_done : (number : ℕ) (context : Context) (before : List Line) (all : List (List ℕ))

@@ -1,5 +1,5 @@
 -- Where a line can stand, and how lines make scripts.
-use Rattle.std.specs.Prelude.{ℕ, List, [], ◌∷◌, ◌++◌, length, Bool, true, false, nat_lt, if◌then◌else◌, Option, Some, None}
+use Rattle.std.specs.Prelude.{ℕ, List, [], ◌∷◌, ◌++◌, length, Bool, true, false, nat_lt, if◌then◌else◌, Option, Some, None, option_map}
 use Rattle.std.specs.List.{list_any}
 use Rattle.fp_model.specs.declared.name.Name.{Name}
 use Rattle.fp_model.specs.declared.scripts.Operand.{Operand}
@@ -49,26 +49,19 @@ unclosed context = elim context.left_open [ None ↦ outermost context.open_bloc
 -- ---- where a line can stand, by its first word
 
 abbrev pub is_loop : Open → Bool
-is_loop block = elim block.kind [ Choice ↦ false | Otherwise ↦ false | Loop ↦ true ]
-
--- nothing but TRAN can stand before the first TRAN
-abbrev pub within_script : Context → Option Context → Option Context
-within_script context next = if context.has_begun then next else None
+is_loop block = elim block.kind [ Loop ↦ true | _ ↦ false ]
 
 -- a new block, where fewer than 64 are open
-abbrev pub opened : Kind → ℕ → Context → Option Context
-opened kind number context =
-    if nat_lt (length context.open_blocks) 64
-    then Some (record context { open_blocks = record { kind = kind; line = number } ∷ context.open_blocks })
-    else None
+abbrev pub opened : Kind → ℕ → List Open → Option (List Open)
+opened kind number blocks =
+    if nat_lt (length blocks) 64 then Some (record { kind = kind; line = number } ∷ blocks) else None
 
 -- ELSE, where the innermost open block is that of an IF
 abbrev pub else_in : List Open → Option (List Open)
 else_in [] = None
 else_in (block ∷ more) = elim block.kind [
   | Choice ↦ Some (record { kind = Otherwise; line = block.line } ∷ more)
-  | Otherwise ↦ None
-  | Loop ↦ None
+  | _ ↦ None
 ]
 
 -- END, where a block is open
@@ -76,34 +69,27 @@ abbrev pub end_in : List Open → Option (List Open)
 end_in [] = None
 end_in (block ∷ more) = Some more
 
-abbrev pub with_open : Context → Option (List Open) → Option Context
-with_open context None = None
-with_open context (Some blocks) = Some (record context { open_blocks = blocks })
-
--- BREAK, where a loop is open
-abbrev pub in_loop : Context → Option Context
-in_loop context = if list_any is_loop context.open_blocks then Some context else None
-
 -- TRAN ends the script before it, with what was open there
 abbrev pub begun : Context → Context
 begun context = record { has_begun = true; open_blocks = []; left_open = unclosed context }
 
--- what is open behind a line that begins with this word; None where it can't stand there
+-- the blocks that are open behind a line of a script that begins with this word; None where it can't stand there, as
+-- BREAK where no loop is open
+abbrev pub opens : ℕ → Keyword → List Open → Option (List Open)
+opens number keyword.If blocks = opened Choice number blocks
+opens number keyword.Else blocks = else_in blocks
+opens number keyword.End blocks = end_in blocks
+opens number keyword.Repeat blocks = opened Loop number blocks
+opens number keyword.Break blocks = if list_any is_loop blocks then Some blocks else None
+opens number _ blocks = Some blocks
+
+-- what is open behind a line that begins with this word; nothing but TRAN can stand before the first TRAN
 unfoldable pub stands : ℕ → Keyword → Context → Option Context
 stands number keyword.Tran context = Some (begun context)
-stands number keyword.If context = within_script context (opened Choice number context)
-stands number keyword.Else context = within_script context (with_open context (else_in context.open_blocks))
-stands number keyword.End context = within_script context (with_open context (end_in context.open_blocks))
-stands number keyword.Repeat context = within_script context (opened Loop number context)
-stands number keyword.Break context = within_script context (in_loop context)
-stands number keyword.Set context = within_script context (Some context)
-stands number keyword.Reply context = within_script context (Some context)
-stands number keyword.Rolb context = within_script context (Some context)
-stands number (keyword.Get get hold) context = within_script context (Some context)
-stands number keyword.Fld context = within_script context (Some context)
-stands number keyword.Isrt context = within_script context (Some context)
-stands number keyword.Repl context = within_script context (Some context)
-stands number keyword.Dlet context = within_script context (Some context)
+stands number keyword context =
+    if context.has_begun
+    then option_map (λ blocks. record context { open_blocks = blocks }) (opens number keyword context.open_blocks)
+    else None
 
 -- ---- how lines make statements and scripts
 
@@ -119,35 +105,27 @@ pub data AreStatements : List Line → List Statement → Type 0 where
   -- no line is no statement
   none : AreStatements [] []
   -- a statement on a line of its own, and more
-  one : (s : Statement) {lines : List Line} {more : List Statement}
-      → AreStatements lines more
+  one : (s : Statement) {lines : List Line} {more : List Statement} → AreStatements lines more
       → AreStatements (line.Whole s ∷ lines) (s ∷ more)
   -- IF .. END, and more
   if_end : (left : Operand) (comparison : Comparison) (right : Operand) {a lines : List Line}
-      {taken more : List Statement}
-      → AreStatements a taken
-      → AreStatements lines more
+      {taken more : List Statement} → AreStatements a taken → AreStatements lines more
       → AreStatements (line.If left comparison right ∷ a ++ line.End ∷ lines)
       (choice left comparison right taken [] ∷ more)
   -- IF .. ELSE .. END, and more
   if_else_end : (left : Operand) (comparison : Comparison) (right : Operand) {a b lines : List Line}
       {taken otherwise more : List Statement}
-      → AreStatements a taken
-      → AreStatements b otherwise
-      → AreStatements lines more
+      → AreStatements a taken → AreStatements b otherwise → AreStatements lines more
       → AreStatements (line.If left comparison right ∷ a ++ line.Else ∷ b ++ line.End ∷ lines)
       (choice left comparison right taken otherwise ∷ more)
   -- REPEAT n .. END, and more
-  repeat_end : (times : ℕ) {a lines : List Line} {body more : List Statement}
-      → AreStatements a body
-      → AreStatements lines more
-      → AreStatements (line.Repeat times ∷ a ++ line.End ∷ lines) (loop times body ∷ more)
+  repeat_end : (times : ℕ) {a lines : List Line} {body more : List Statement} → AreStatements a body
+      → AreStatements lines more → AreStatements (line.Repeat times ∷ a ++ line.End ∷ lines) (loop times body ∷ more)
 
 -- these lines are these scripts
 pub data AreScripts : List Line → List Script → Type 0 where
   no_script : AreScripts [] []
   -- a TRAN line, and statements up to the next one or to the end
   script : (name : Name) {a lines : List Line} {statements : List Statement} {more : List Script}
-      → AreStatements a statements
-      → AreScripts lines more
+      → AreStatements a statements → AreScripts lines more
       → AreScripts (line.Tran name ∷ a ++ lines) (record { name = name; statements = statements } ∷ more)

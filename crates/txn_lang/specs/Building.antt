@@ -1,7 +1,6 @@
 -- How a refusal is told: beside what reading the lines gives.
 use Rattle.std.specs.Prelude.{⊤}
 use Rattle.fp_model.specs.Asking.{cost}
-use Rattle.txn_tokens.specs.declared.fault.LineFault.TheVariants.{Syntax, UnknownName}
 use Rattle.txn_lang.specs.declared.fault.ScriptFault.{ScriptFault}
 use Rattle.txn_lang.specs.declared.fault.ScriptFault.TheVariants as fault
 

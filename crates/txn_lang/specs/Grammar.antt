@@ -1,6 +1,7 @@
 -- The grammar: which texts are scripts, and the first fault of those that aren't.
-use Rattle.std.specs.Prelude.{◌≡◌, ℕ, ◌+◌, ◌<◌, ◌≤◌, List, [], ◌∷◌, ◌++◌, length, Bool, true, not, ◌==◌, nat_lt, is_some, if◌then◌else◌, Option, Some, None, Result, Ok, Err}
+use Rattle.std.specs.Prelude.{◌≡◌, ℕ, ◌+◌, ◌<◌, ◌≤◌, List, [], ◌∷◌, ◌++◌, length, Bool, true, not, ◌==◌, nat_lt, is_some, if◌then◌else◌, Option, Some, None, ok_or, Result, Ok, Err}
 use Rattle.std.specs.List.{list_all}
+use Rattle.std.specs.Option.{option_or}
 use Rattle.fp_model.specs.declared.definitions.Defs.{Defs}
 use Rattle.fp_model.specs.declared.scripts.Script.{Script}
 use Rattle.fp_model.specs.Messages.{lines_of}
@@ -12,7 +13,7 @@ use Rattle.txn_tokens.specs.declared.fault.LineFault.TheVariants.{Syntax, Unknow
 use Rattle.txn_lang.specs.declared.line.Line.{Line}
 use Rattle.txn_tokens.specs.Readings.{Reading}
 use Rattle.fp_model.specs.Readings.{◌>>=◌}
-use Rattle.txn_tokens.specs.Tokens.{or_syntax, unblanked, tokens_of}
+use Rattle.txn_tokens.specs.Tokens.{unblanked, tokens_of}
 use Rattle.txn_tokens.specs.Lookups.{are_known}
 use Rattle.txn_lang.specs.Statements.{keyword_at, line_behind}
 use Rattle.txn_lang.specs.Blocks.{Context, at_top, stands, unclosed, AreScripts}
@@ -23,11 +24,12 @@ use Rattle.txn_lang.specs.Blocks.{Context, at_top, stands, unclosed, AreScripts}
 abbrev pub is_ascii : ℕ → Bool
 is_ascii b = nat_lt b 128
 
--- nothing but blanks, or a `*` behind blanks
+-- what stands behind the blanks in front: nothing, or a `*`
 abbrev pub is_skipped_text : List ℕ → Bool
 is_skipped_text [] = true
 is_skipped_text (b ∷ bs) = b == 42
 
+-- nothing but blanks, or a `*` behind blanks
 abbrev pub is_skipped : List ℕ → Bool
 is_skipped bytes = is_skipped_text (unblanked bytes)
 
@@ -42,11 +44,11 @@ unfoldable pub statement_in : Defs → ℕ → Context → List ℕ → Reading 
 statement_in defs number context bytes = do
   tokens ← tokens_of bytes
   keyword ← keyword_at tokens
-  next ← or_syntax (stands number keyword.0 context)
+  next ← ok_or (stands number keyword.0 context) Syntax
   said ← line_behind defs keyword.0 keyword.1
   if are_known defs tokens then Ok (record { said = said ∷ []; context = next }) else Err UnknownName
 
--- what any line says: nothing, where it is skipped
+-- what any line says: nothing, where it is skipped. A byte that is no ASCII is Syntax in each
 unfoldable pub line_in : Defs → ℕ → Context → List ℕ → Reading Read
 line_in defs number context bytes =
     if not (list_all is_ascii bytes) then Err Syntax
@@ -61,14 +63,6 @@ at_line number Syntax = fault.Syntax number
 at_line number UnknownName = fault.UnknownName number
 at_line number Memory = fault.Memory
 
-abbrev pub in_front : List Line → Result Read ScriptFault → Result Read ScriptFault
-in_front said (Ok read) = Ok (record read { said = said ++ read.said })
-in_front said (Err e) = Err e
-
-abbrev pub and_then : Result Read ScriptFault → (Context → Result Read ScriptFault) → Result Read ScriptFault
-and_then (Ok read) f = in_front read.said (f read.context)
-and_then (Err e) f = Err e
-
 abbrev pub numbered : ℕ → Reading Read → Result Read ScriptFault
 numbered number (Ok read) = Ok read
 numbered number (Err e) = Err (at_line number e)
@@ -76,8 +70,10 @@ numbered number (Err e) = Err (at_line number e)
 -- the lines from this number on
 unfoldable pub lines_in : Defs → ℕ → Context → List (List ℕ) → Result Read ScriptFault
 lines_in defs number context [] = Ok (record { said = []; context = context })
-lines_in defs number context (bytes ∷ more) =
-    and_then (numbered number (line_in defs number context bytes)) (λ next. lines_in defs (number + 1) next more)
+lines_in defs number context (bytes ∷ more) = do
+  first ← numbered number (line_in defs number context bytes)
+  others ← lines_in defs (number + 1) first.context more
+  Ok (record others { said = first.said ++ others.said })
 
 -- the lines of a text
 abbrev pub text_in : Defs → List ℕ → Result Read ScriptFault
@@ -94,23 +90,16 @@ pub record IsWritten (defs : Defs) (text : List ℕ) (scripts : List Script) : T
   pub shape : AreScripts read.said scripts
 
 -- what is wrong with a transaction: a name that an earlier one has, or a cost above 10,000
-abbrev pub fault_of_script : Bool → Script → Option ScriptFault
-fault_of_script seen s =
-    if seen then Some (fault.Twice s.name)
+abbrev pub script_fault : List Script → Script → Option ScriptFault
+script_fault earlier s =
+    if is_some (script_of earlier s.name) then Some (fault.Twice s.name)
     else if nat_lt 10000 (cost s.statements) then Some (fault.TooDear s.name (cost s.statements))
     else None
-
-abbrev pub script_fault : List Script → Script → Option ScriptFault
-script_fault earlier s = fault_of_script (is_some (script_of earlier s.name)) s
-
-abbrev pub or_later : Option ScriptFault → Option ScriptFault → Option ScriptFault
-or_later None later = later
-or_later (Some f) later = Some f
 
 -- the first such fault of the transactions in turn
 unfoldable pub scripts_fault : List Script → List Script → Option ScriptFault
 scripts_fault earlier [] = None
-scripts_fault earlier (s ∷ more) = or_later (script_fault earlier s) (scripts_fault (earlier ++ s ∷ []) more)
+scripts_fault earlier (s ∷ more) = option_or (script_fault earlier s) (scripts_fault (earlier ++ s ∷ []) more)
 
 -- a text in the grammar, and the scripts that it is
 pub record AreScriptsOf (defs : Defs) (text : List ℕ) (scripts : List Script) : Type 0 where

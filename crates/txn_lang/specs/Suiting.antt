@@ -1,6 +1,6 @@
 -- Scripts that suit their definitions: each call names a database that is defined and, of a data entry database, segment
 -- types that it has.
-use Rattle.std.specs.Prelude.{ℕ, List, length, Bool, true, false, ◌&&◌, nat_lt, nat_le}
+use Rattle.std.specs.Prelude.{List, length, Bool, true, false, ◌&&◌, nat_lt, nat_le}
 use Rattle.std.specs.List.{list_all}
 use Rattle.fp_model.specs.declared.definitions.Defs.{Defs}
 use Rattle.fp_model.specs.declared.scripts.SsaText.{SsaText}

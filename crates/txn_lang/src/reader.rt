@@ -1,9 +1,9 @@
 //! Reads the lines of a text, up to the first with a fault.
-ghost use Rattle.std.specs.Prelude.{◌≡◌, ◌∷◌, ◌≤◌, ◌<◌, ◌-◌, IfOk, IfErr, Err, length, reverse};
+ghost use Rattle.std.specs.Prelude.{◌≡◌, ◌≢◌, ◌∷◌, ◌≤◌, ◌<◌, ◌-◌, IfOk, IfErr, Err, length, reverse};
 ghost use Rattle.std.specs.List.{list_all};
 ghost use Rattle.std.specs.Str.Lines.{strip_carriage_return};
 ghost use Rattle.fp_model.specs.Messages.{lines_of};
-ghost use Rattle.txn_tokens.specs.Readings.{Fails};
+ghost use Rattle.txn_tokens.specs.declared.fault.LineFault.TheVariants as line_fault;
 ghost use Rattle.txn_tokens.specs.Lookups.{HaveByteNumbers};
 ghost use Rattle.txn_lang.specs.Grammar as grammar;
 ghost use Rattle.txn_lang.specs.Grammar.{line_in, text_in};
@@ -78,7 +78,8 @@ fn read_line(
     requires block { IsBlock builder.block }
     requires frames { AreFrames (reverse builder.frames) }
     ensures ok { IfOk result (λ b. ReadsLine defs.now number bytes.now builder b) }
-    ensures err { IfErr result (λ e. Fails e (line_in defs.now number (context_of builder) bytes.now)) }
+    ensures err { IfErr result (λ e. e ≢ line_fault.Memory
+        → line_in defs.now number (context_of builder) bytes.now ≡ Err e) }
 {
     if !is_ascii(bytes) {
         return Err(LineFault::Syntax);

@@ -2,7 +2,8 @@
 ghost use Rattle.std.specs.Prelude.{◌≡◌, ◌∷◌, [], ◌≤◌, ◌<◌, length, map, IfOk, IfErr, Some, None, slice_get, is_some};
 ghost use Rattle.std.specs.BTreeMap.{get};
 ghost use Rattle.fp_model.specs.Asking.{cost, script_of};
-ghost use Rattle.txn_lang.specs.Grammar.{fault_of_script, scripts_fault};
+ghost use Rattle.txn_lang.specs.Grammar.{scripts_fault};
+ghost use Rattle.txn_lang.specs.inside.Building.{fault_of_script};
 ghost use Rattle.txn_lang.specs.Building.{Refuses};
 ghost use Rattle.txn_lang.specs.Numbers.{Indexes, name_cmp};
 

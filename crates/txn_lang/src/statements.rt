@@ -14,14 +14,14 @@
 //! | `ISRT` | database, SSAs, and fields |
 //! | `REPL` | database, and fields |
 //! | `DLET` | database |
-ghost use Rattle.std.specs.Prelude.{◌≡◌, codes};
-ghost use Rattle.std.specs.List.{before_first};
-ghost use Rattle.fp_model.specs.declared.scripts.Statement.{roll-Statement};
-ghost use Rattle.fp_model.specs.declared.scripts.Statement.TheOpen as statement;
+ghost use Rattle.std.specs.Prelude.{◌≡◌};
 ghost use Rattle.txn_tokens.specs.Readings.{Gives, ended};
+ghost use Rattle.txn_tokens.specs.Tokens.{run, behind};
 ghost use Rattle.txn_tokens.specs.Parts.{entry_of};
 ghost use Rattle.txn_tokens.specs.Lookups.{HaveByteNumbers};
 ghost use Rattle.txn_lang.specs.Statements as statements;
+ghost use Rattle.txn_lang.specs.inside.Keywords as inside;
+ghost use Rattle.txn_lang.specs.inside.Rows as rows;
 
 use crate::line::{Keyword, Line};
 use fp_model::{Defs, Get, Name, Operand, Operation, Statement};
@@ -38,8 +38,9 @@ const MOST_TIMES: u16 = 10_000;
 const GREATEST_CODE: u16 = 98;
 
 // The keywords of scripts and blocks.
+#[tactic(auto, unfolding(crate::specs::inside::Keywords::block_keywords))]
 fn block_keyword(name: &Name) -> Option<Keyword>
-    ensures { result ≡ entry_of statements.block_keywords name.now }
+    ensures { result ≡ entry_of inside.block_keywords name.now }
 {
     if is_word(name, b"TRAN    ") {
         return Some(Keyword::Tran);
@@ -63,8 +64,9 @@ fn block_keyword(name: &Name) -> Option<Keyword>
 }
 
 // The keywords of the gets.
+#[tactic(auto, unfolding(crate::specs::inside::Keywords::get_keywords))]
 fn get_keyword(name: &Name) -> Option<Keyword>
-    ensures { result ≡ entry_of statements.get_keywords name.now }
+    ensures { result ≡ entry_of inside.get_keywords name.now }
 {
     if is_word(name, b"GU      ") {
         return Some(Keyword::Get {
@@ -106,8 +108,9 @@ fn get_keyword(name: &Name) -> Option<Keyword>
 }
 
 // The other keywords.
+#[tactic(auto, unfolding(crate::specs::inside::Keywords::plain_keywords))]
 fn plain_keyword(name: &Name) -> Option<Keyword>
-    ensures { result ≡ entry_of statements.plain_keywords name.now }
+    ensures { result ≡ entry_of inside.plain_keywords name.now }
 {
     if is_word(name, b"SET     ") {
         return Some(Keyword::Set);
@@ -134,18 +137,16 @@ fn plain_keyword(name: &Name) -> Option<Keyword>
 }
 
 // The keyword that a word is.
-fn keyword_of(name: &Name) -> Result<Keyword, LineFault>
-    ensures { Gives (λ x. x) result (statements.keyword_of name.now) }
+#[tactic(auto, using(crate::proofs::KeywordLemmas::in_others))]
+fn keyword_of(name: &Name) -> Option<Keyword>
+    ensures { result ≡ entry_of statements.keywords name.now }
 {
-    if let Some(keyword) = block_keyword(name) {
-        return Ok(keyword);
-    }
-    if let Some(keyword) = get_keyword(name) {
-        return Ok(keyword);
-    }
-    match plain_keyword(name) {
-        Some(keyword) => Ok(keyword),
-        None => Err(LineFault::Syntax),
+    match block_keyword(name) {
+        Some(keyword) => Some(keyword),
+        None => match get_keyword(name) {
+            Some(keyword) => Some(keyword),
+            None => plain_keyword(name),
+        },
     }
 }
 
@@ -155,8 +156,10 @@ pub(crate) fn keyword_at(tokens: &[Token]) -> Result<(Keyword, &[Token]), LineFa
     ensures { Gives (λ x. (x.0, x.1.now)) result (statements.keyword_at tokens.now) }
 {
     let (name, rest) = word_at(tokens)?;
-    let keyword = keyword_of(&name)?;
-    Ok((keyword, rest))
+    match keyword_of(&name) {
+        Some(keyword) => Ok((keyword, rest)),
+        None => Err(LineFault::Syntax),
+    }
 }
 
 // What was read, where nothing is left behind it.
@@ -169,9 +172,8 @@ fn ended<T: Drop>(said: T, tokens: &[Token]) -> Result<T, LineFault>
     Err(LineFault::Syntax)
 }
 
-#[tactic(auto, unfolding(crate::specs::Statements::tran_line))]
 fn tran_line(tokens: &[Token]) -> Result<Line, LineFault>
-    ensures { Gives (λ x. x) result (statements.tran_line tokens.now) }
+    ensures { Gives (λ x. x) result (rows.tran_line tokens.now) }
 {
     let (name, rest) = word_at(tokens)?;
     ended(Line::Tran(name), rest)
@@ -221,25 +223,22 @@ fn if_line(alloc: Global, tokens: &[Token]) -> Result<Line, LineFault>
     )
 }
 
-#[tactic(auto, unfolding(crate::specs::Statements::repeat_line))]
 fn repeat_line(tokens: &[Token]) -> Result<Line, LineFault>
-    ensures { Gives (λ x. x) result (statements.repeat_line tokens.now) }
+    ensures { Gives (λ x. x) result (rows.repeat_line tokens.now) }
 {
     let (times, rest) = count_at(tokens, 1, MOST_TIMES)?;
     ended(Line::Repeat(u32::from(times)), rest)
 }
 
-#[tactic(auto, unfolding(crate::specs::Statements::reply_line))]
 fn reply_line(alloc: Global, tokens: &[Token]) -> Result<Line, LineFault>
-    ensures { Gives (λ x. x) result (statements.reply_line tokens.now) }
+    ensures { Gives (λ x. x) result (rows.reply_line tokens.now) }
 {
     let operands = operands_in(alloc, tokens)?;
     Ok(Line::Whole(Statement::Reply(operands)))
 }
 
-#[tactic(auto, unfolding(crate::specs::Statements::rolb_line))]
 fn rolb_line(tokens: &[Token]) -> Result<Line, LineFault>
-    ensures { Gives (λ x. x) result (statements.rolb_line tokens.now) }
+    ensures { Gives (λ x. x) result (rows.rolb_line tokens.now) }
 {
     let (code, rest) = count_at(tokens, 0, GREATEST_CODE)?;
     ended(Line::Whole(Statement::Roll(code)), rest)
@@ -280,22 +279,22 @@ fn fld_line(alloc: Global, defs: &Defs, tokens: &[Token]) -> Result<Line, LineFa
     Ok(Line::Whole(Statement::Fld { db, key, fsas }))
 }
 
-// Whether the fields of ISRT begin at a token: a word that a `=` stands directly behind.
-fn begins_fields(token: &Token) -> bool
-    ensures { result ≡ statements.begins_fields token.now }
+// Whether the fields of ISRT don't begin at a token: at a word that a `=` stands directly behind they do.
+fn is_before_fields(token: &Token) -> bool
+    ensures { result ≡ statements.is_before_fields token.now }
 {
     match token {
-        Token::Word { assigned, .. } => *assigned,
-        _ => false,
+        Token::Word { assigned, .. } => !*assigned,
+        _ => true,
     }
 }
 
 // The tokens before the fields of ISRT, and those from there on.
 fn split_fields(tokens: &[Token]) -> (&[Token], &[Token])
-    ensures before { result.0.now ≡ statements.before_fields tokens.now }
-    ensures from { result.1.now ≡ statements.from_fields tokens.now }
+    ensures before { result.0.now ≡ run statements.is_before_fields tokens.now }
+    ensures from { result.1.now ≡ behind statements.is_before_fields tokens.now }
 {
-    match tokens.iter().position(|token| begins_fields(token)) {
+    match tokens.iter().position(|token| !is_before_fields(token)) {
         Some(place) => (&tokens[..place], &tokens[place..]),
         None => (tokens, &[]),
     }

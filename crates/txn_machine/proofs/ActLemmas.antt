@@ -29,9 +29,9 @@ use Rattle.txn_machine.specs.inside.Running.{StandsAtCall}
 use Rattle.txn_machine.specs.inside.Stepping.{ComesAlike, Costs, IsDeed}
 use Rattle.txn_machine.specs.inside.Work.{statement_work, work_from, work_beyond, work_around, work}
 use Rattle.txn_machine.proofs.AlikeLemmas.{same_end}
-use Rattle.txn_machine.proofs.EndLemmas.{drop_here}
 use Rattle.txn_machine.proofs.PlaceLemmas.{around_push, around_end, block_push}
 use Rattle.txn_machine.proofs.WorkLemmas.{work_here, work_push, work_at, some_work}
+use Rattle.plain_laws.proofs.Places.{drop_got}
 
 suc_times : (n m : ℕ) → suc n * m ≡ n * m + m
 suc_times n m = omega arith
@@ -53,7 +53,7 @@ module _ (defs : Defs) (statements : List Statement) (message : Message) (end : 
   here x is more =
       ap (λ (ss : List Statement). ended (around defs message old.place.frames statements
       (in_order (map (run defs message) ss) (env_of old.known more))))
-      (drop_here block_of_old old.place.at d.statement d.here)
+      (drop_got block_of_old old.place.at d.statement d.here)
       ∙ ap (λ (way : Way). ended (around defs message old.place.frames statements
       (goes_on way (from_place defs message (old.place.at + 1) block_of_old)))) (d.does more)
       ∙ ap (λ (y : Deed). end_behind y more) is

@@ -1,6 +1,6 @@
 -- Lists seen from their ends.
-use Rattle.std.proofs.Common.{◌≡◌, ◌∙◌, refl, sym, ap, arith, ℕ, zero, suc, ◌+◌, ◌-◌, ◌<◌, List, [], ◌∷◌, ◌++◌, length, take, drop, get_or, Some, None}
-use Rattle.std.specs.Prelude.{slice_set, slice_get}
+use Rattle.std.proofs.Common.{◌≡◌, ◌∙◌, refl, sym, ap, arith, ℕ, zero, suc, ◌+◌, ◌-◌, ◌<◌, List, [], ◌∷◌, ◌++◌, length, take, get_or, None}
+use Rattle.std.specs.Prelude.{slice_set}
 use Rattle.std.proofs.Math.Seq.{take-suc, take-append_seam}
 use Rattle.std.proofs.lemmas.List.{take_all, length-append}
 
@@ -35,16 +35,3 @@ same_end_of {X} a b x y is =
 
 pub front_is : {X : Type 0} (xs a b : List X) (x y : X) → xs ≡ a ++ x ∷ [] → xs ≡ b ++ y ∷ [] → a ≡ b
 front_is xs a b x y h k = same_end_of a b x y (sym h ∙ k)
-
--- what stands at a place, and the rest
-pub drop_here : {X : Type 0} (xs : List X) (i : ℕ) (x : X) → slice_get xs i ≡ Some x → drop i xs ≡ x ∷ drop (i + 1) xs
-drop_here [] i x is = absurd cc
-drop_here {X} (y ∷ ys) zero x is = let e : y ≡ x = cc in ap (λ (z : X). z ∷ ys) e
-drop_here {X} (y ∷ ys) (suc i) x is =
-    let next : suc i + 1 ≡ suc (i + 1) = omega arith in
-    drop_here ys i x is ∙ ap (λ (n : ℕ). x ∷ drop n (y ∷ ys)) (sym next)
-
-pub stands_at : {X : Type 0} (xs : List X) (i : ℕ) (x : X) → i < length xs → x ≡ get_or xs i x → slice_get xs i ≡ Some x
-stands_at [] i x lt is = absurd (omega arith)
-stands_at {X} (y ∷ ys) zero x lt is = ap (λ (z : X). Some z) (sym is)
-stands_at (y ∷ ys) (suc i) x lt is = stands_at ys i x (omega arith) is

@@ -9,7 +9,7 @@ use Rattle.fp_model.specs.Fsas.{field_of, with_field}
 use Rattle.fp_model.specs.Operands.{Env, filled, new_type, text_of}
 use Rattle.fp_model.specs.Values.{◌>>=◌, value_bytes}
 use Rattle.txn_machine.specs.inside.Filling.{with_value}
-use Rattle.txn_values.proofs.FieldLemmas.{rest_at}
+use Rattle.plain_laws.proofs.Places.{rest_at}
 
 -- one value, and those behind it
 then_filled : {A B C D : Type 0} (m : Option A) (f : A → Option B) (g : A → B → Option C) (h : A → B → C → D)

@@ -1,9 +1,9 @@
 -- Calls that fit a main storage database: what a fit statement asks, of what was shown.
-use Rattle.std.proofs.Common.{◌≡◌, ◌∙◌, refl, sym, ap, subst, arith, ℕ, zero, suc, ◌+◌, ◌-◌, ◌<◌, ◌≤◌, List, [], ◌∷◌, ◌++◌, drop, take, length, length-drop, length-append, Bool, true, false, if◌then◌else◌, Option, Some, None}
+use Rattle.std.proofs.Common.{◌≡◌, ◌∙◌, refl, sym, ap, subst, arith, ℕ, zero, suc, ◌+◌, ◌-◌, ◌<◌, ◌≤◌, List, [], ◌∷◌, ◌++◌, length, length-append, Bool, true, false, if◌then◌else◌, Option, Some, None}
 use Rattle.std.specs.Prelude.{slice_get, find, option_map, nat_le, not, ◌==◌, IfSome, replicate, pos}
 use Rattle.std.specs.List.{AllByRecursion}
 use Rattle.std.proofs.lemmas.Bool.{eqb-true, leb-true}
-use Rattle.std.proofs.lemmas.List.{length-take, length-replicate}
+use Rattle.std.proofs.lemmas.List.{length-replicate}
 use Rattle.fp_model.specs.declared.calls.Message.{Message}
 use Rattle.fp_model.specs.declared.calls.Ssa.{Ssa}
 use Rattle.fp_model.specs.declared.definitions.Defs.{Defs}
@@ -14,7 +14,7 @@ use Rattle.fp_model.specs.declared.scripts.SsaText.{SsaText}
 use Rattle.fp_model.specs.declared.scripts.FsaText.{FsaText}
 use Rattle.fp_model.specs.declared.scripts.FieldText.{FieldText}
 use Rattle.fp_model.specs.State.{key_length}
-use Rattle.fp_model.specs.Texts.{padded, number_in, same_text}
+use Rattle.fp_model.specs.Texts.{padded, number_in}
 use Rattle.fp_model.specs.Numbers.{bytes_of}
 use Rattle.fp_model.specs.Fsas.{Fsa, field_of, with_field, is_text}
 use Rattle.fp_model.specs.MsdbCalls.{key_named}
@@ -23,14 +23,10 @@ use Rattle.fp_model.specs.FitCalls.{FitsKey}
 use Rattle.fp_model.specs.Values.{◌>>=◌, Layout, layout_of, fitted, fitted_key, value_bytes, empty_field, empty_segment}
 use Rattle.fp_model.specs.Operands.{Env, ShownSegment, text_of, key_text, ssa_of, ssas_of, fsas_given, filled}
 use Rattle.packed_dec.proofs.ReadsBack.{reads_back}
+use Rattle.model_laws.proofs.Layouts.{field_within, with_field_length}
+use Rattle.model_laws.proofs.Texts.{some_step}
 
 -- ---- values that there are
-
--- what is made of a value that there is
-pub made : {A B : Type 0} (m : Option A) (f : A → Option B) (y : B) → (m >>= f) ≡ Some y → (x : A) × (m ≡ Some x)
-    × (f x ≡ Some y)
-made None f y is = absurd cc
-made (Some x) f y is = (x, refl, is)
 
 pub mapped : {A B : Type 0} (m : Option A) (f : A → B) (y : B) → option_map f m ≡ Some y → (x : A) × (m ≡ Some x)
     × (f x ≡ y)
@@ -64,7 +60,7 @@ value_length : (field : FieldDef) (text bytes : List ℕ) → value_bytes field 
 value_length field text bytes is =
     by_kind (is_text field.kind) (fitted field.length text) (number_in text >>= bytes_of field.kind field.length) bytes
     (length bytes ≡ field.length) is (fitted_length field.length text bytes)
-    (λ h. let m = made (number_in text) (bytes_of field.kind field.length) bytes h in
+    (λ h. let m = some_step (number_in text) (bytes_of field.kind field.length) bytes h in
     (reads_back field.kind field.length m.0 bytes m.2).0)
 
 blanks_length : (n : ℕ) (bytes : List ℕ) → Some (padded n []) ≡ Some bytes → length bytes ≡ n
@@ -83,45 +79,18 @@ empty_field_length field bytes is =
 
 -- ---- fields one behind another
 
-stand_le : (fields : List FieldDef) (at end : ℕ) → StandFrom at fields end → at ≤ end
-stand_le [] at end h = omega arith
-stand_le (f ∷ fs) at end h = let ih = stand_le fs (at + f.length) end h.2 in omega (arith, ih)
-
-within_first : (b : Bool) (first field : FieldDef) (others : Option FieldDef) (at end : ℕ) → first.at ≡ at
-    → at + first.length ≤ end → (others ≡ Some field → field.at + field.length ≤ end)
-    → (if b then Some first else others) ≡ Some field → field.at + field.length ≤ end
-within_first true first field others at end is le later found = let same : first ≡ field = cc in
-    subst (λ (f : FieldDef). f.at + f.length ≤ end) same (omega arith)
-within_first false first field others at end is le later found = later found
-
-field_within : (fields : List FieldDef) (at end : ℕ) (name : List ℕ) (field : FieldDef) → StandFrom at fields end
-    → field_of fields name ≡ Some field → field.at + field.length ≤ end
-field_within [] at end name field h found = absurd cc
-field_within (f ∷ fs) at end name field h found =
-    within_first (same_text f.name.0 name) f field (field_of fs name) at end h.0 (stand_le fs (at + f.length) end h.2)
-    (field_within fs (at + f.length) end name field h.2) found
-
 pub empty_length : (fields : List FieldDef) (at end : ℕ) (bytes : List ℕ) → StandFrom at fields end
     → empty_segment fields ≡ Some bytes → at + length bytes ≡ end
 empty_length [] at end bytes h is = let none : [] ≡ bytes = cc in let long : 0 ≡ length bytes = ap length none in
     omega (arith, long)
 empty_length (f ∷ fs) at end bytes h is =
-    let first = made (empty_field f) (λ b. empty_segment fs >>= (λ o. Some (b ++ o))) bytes is in
-    let others = made (empty_segment fs) (λ o. Some (first.0 ++ o)) bytes first.2 in
+    let first = some_step (empty_field f) (λ b. empty_segment fs >>= (λ o. Some (b ++ o))) bytes is in
+    let others = some_step (empty_segment fs) (λ o. Some (first.0 ++ o)) bytes first.2 in
     let whole : first.0 ++ others.0 ≡ bytes = let e = others.2 in cc in
     let a = empty_field_length f first.0 first.1 in
     let b = empty_length fs (at + f.length) end others.0 h.2 others.1 in
     let c : length first.0 + length others.0 ≡ length bytes = sym (length-append first.0 others.0) ∙ ap length whole in
     omega (arith, a, b, c)
-
-with_field_length : (field : FieldDef) (bytes segment : List ℕ) → length bytes ≡ field.length
-    → field.at + field.length ≤ length segment → length (with_field field bytes segment) ≡ length segment
-with_field_length field bytes segment is le =
-    let a = length-append (take field.at segment) bytes in
-    let b = length-append (take field.at segment ++ bytes) (drop (field.at + length bytes) segment) in
-    let c = length-take field.at segment in
-    let d = length-drop (field.at + length bytes) segment in
-    omega (arith, a, b, c, d)
 
 pub filled_length : (defs : Defs) (message : Message) (env : Env) (fields : List FieldDef) (end : ℕ)
     (values : List FieldText) (segment bytes : List ℕ)
@@ -130,12 +99,12 @@ pub filled_length : (defs : Defs) (message : Message) (env : Env) (fields : List
 filled_length defs message env fields end [] segment bytes h long is = let same : segment ≡ bytes = cc in
     sym (ap length same) ∙ long
 filled_length defs message env fields end (v ∷ vs) segment bytes h long is =
-    let field = made (field_of fields v.field.0) (λ f. text_of defs message env v.value >>=
+    let field = some_step (field_of fields v.field.0) (λ f. text_of defs message env v.value >>=
     (λ t. value_bytes f t >>= (λ b. filled defs message env fields vs (with_field f b segment)))) bytes is in
-    let text = made (text_of defs message env v.value)
+    let text = some_step (text_of defs message env v.value)
     (λ t. value_bytes field.0 t >>= (λ b. filled defs message env fields vs (with_field field.0 b segment))) bytes
     field.2 in
-    let value = made (value_bytes field.0 text.0) (λ b. filled defs message env fields vs
+    let value = some_step (value_bytes field.0 text.0) (λ b. filled defs message env fields vs
     (with_field field.0 b segment)) bytes text.2 in
     let within = field_within fields 0 end v.field.0 field.0 h field.1 in
     let kept = with_field_length field.0 value.0 segment (value_length field.0 text.0 value.0 value.1)
@@ -158,7 +127,7 @@ pub key_fits : (defs : Defs) (message : Message) (env : Env) (db type_number : �
     (key : List ℕ) → slice_get defs.msdbs db ≡ Some def
     → key_text defs message env db type_number operand ≡ Some key → FitsKey key def
 key_fits defs message env db type_number operand def key found is =
-    let text = made (text_of defs message env operand) (λ t. layout_of defs db type_number >>= (λ l. fitted_key l t))
+    let text = some_step (text_of defs message env operand) (λ t. layout_of defs db type_number >>= (λ l. fitted_key l t))
     key is in
     let fit : fitted (key_length def.fields) text.0 ≡ Some key =
     sym (ap (λ (o : Option Layout). o >>= (λ l. fitted_key l text.0)) (layout_is defs db type_number def found)) ∙
@@ -187,9 +156,9 @@ pub ssas_fit : (defs : Defs) (message : Message) (env : Env) (db : ℕ) (ssas : 
 ssas_fit defs message env db [] def list found is = let same : [] ≡ list = cc in
     subst (λ (l : List Ssa). IfSome (key_named l) (λ k. FitsKey k def)) same tt
 ssas_fit defs message env db (s ∷ ss) def list found is =
-    let first = made (ssa_of defs message env db s) (λ a. ssas_of defs message env db ss >>= (λ more. Some (a ∷ more)))
+    let first = some_step (ssa_of defs message env db s) (λ a. ssas_of defs message env db ss >>= (λ more. Some (a ∷ more)))
     list is in
-    let others = made (ssas_of defs message env db ss) (λ more. Some (first.0 ∷ more)) list first.2 in
+    let others = some_step (ssas_of defs message env db ss) (λ more. Some (first.0 ∷ more)) list first.2 in
     let same : first.0 ∷ others.0 ≡ list = let e = others.2 in cc in
     subst (λ (l : List Ssa). IfSome (key_named l) (λ k. FitsKey k def)) same
     (ssa_key_fits defs message env db s.segment s.key def first.0 found first.1)
@@ -199,7 +168,7 @@ pub given_length : (defs : Defs) (message : Message) (env : Env) (fsas : List Fs
     → fsas_given defs message env fsas ≡ Some list → length list ≡ length fsas
 given_length defs message env [] list is = let same : [] ≡ list = cc in sym (ap length same)
 given_length defs message env (f ∷ fs) list is =
-    let text = made (text_of defs message env f.operand)
+    let text = some_step (text_of defs message env f.operand)
     (λ t. fsas_given defs message env fs >>= (λ os. Some (record {
       field = f.field.0;
       status = 32;
@@ -207,7 +176,7 @@ given_length defs message env (f ∷ fs) list is =
           f.op;
       operand = t;
     } ∷ os))) list is in
-    let others = made (fsas_given defs message env fs) (λ os. Some (record {
+    let others = some_step (fsas_given defs message env fs) (λ os. Some (record {
       field = f.field.0;
       status = 32;
       op =

@@ -34,8 +34,9 @@ use Rattle.txn_machine.specs.Knowing.{env_of}
 use Rattle.txn_machine.specs.Places.{block_at, block_in, choice_in, inner, loop_in}
 use Rattle.txn_machine.specs.Running.{IsFitNext}
 use Rattle.txn_machine.specs.inside.Stepping.{IsEnd, IsGivenBy}
-use Rattle.txn_machine.proofs.FitLemmas.{made, mapped, ssas_fit, key_fits, layout_is, empty_length, filled_length, given_length, def_at, all_at, shown_at}
+use Rattle.txn_machine.proofs.FitLemmas.{mapped, ssas_fit, key_fits, layout_is, empty_length, filled_length, given_length, def_at, all_at, shown_at}
 use Rattle.txn_machine.proofs.StatementLemmas.{run_out}
+use Rattle.model_laws.proofs.Texts.{some_step}
 
 -- ---- blocks of fit statements are fit
 
@@ -150,9 +151,9 @@ module _ (defs : Defs) (message : Message) (env : Env) (well : AllByRecursion Is
       → ((list : List Fsa) → fsas_given defs message env fsas ≡ Some list → AllByRecursion IsFsa list)
       → fld_call defs message env db key fsas ≡ Some asked → IsMsdbCall defs.msdbs asked
   fit_fld db key fsas asked h spelled is =
-      let k = made (key_text defs message env db 0 key)
+      let k = some_step (key_text defs message env db 0 key)
       (λ b. fsas_given defs message env fsas >>= (λ l. Some (call.Fld db b (list_text l)))) asked is in
-      let l = made (fsas_given defs message env fsas) (λ l. Some (call.Fld db k.0 (list_text l))) asked k.2 in
+      let l = some_step (fsas_given defs message env fsas) (λ l. Some (call.Fld db k.0 (list_text l))) asked k.2 in
       let both = and_parts (nat_lt db (length defs.msdbs)) (is_some_few fsas) h in
       let few = and_parts (nat_le 1 (length fsas)) (nat_le (length fsas) 255) both.1 in
       let def = defined db both.0 in
@@ -179,7 +180,7 @@ module _ (defs : Defs) (message : Message) (env : Env) (well : AllByRecursion Is
       → isrt_call defs message env db ssas fields ≡ Some asked → IsMsdbCall defs.msdbs asked
   fit_isrt db ssas fields asked h is =
       let def = defined db h in
-      let found = made (ssas_of defs message env db ssas)
+      let found = some_step (ssas_of defs message env db ssas)
       (λ f. layout_of defs db (new_type defs message ssas) >>=
       (λ l. empty_segment l.fields >>= (λ s. filled defs message env l.fields fields s >>=
       (λ b. Some (call.Isrt db f b))))) asked is in
@@ -188,9 +189,9 @@ module _ (defs : Defs) (message : Message) (env : Env) (well : AllByRecursion Is
       sym (ap (λ (o : Option Layout). o >>= (λ l. empty_segment l.fields >>=
       (λ s. filled defs message env l.fields fields s >>= (λ b. Some (call.Isrt db found.0 b)))))
       (layout_is defs db (new_type defs message ssas) def.0 def.1)) ∙ found.2 in
-      let segment = made (empty_segment def.0.fields)
+      let segment = some_step (empty_segment def.0.fields)
       (λ s. filled defs message env def.0.fields fields s >>= (λ b. Some (call.Isrt db found.0 b))) asked layout in
-      let bytes = made (filled defs message env def.0.fields fields segment.0) (λ b. Some (call.Isrt db found.0 b))
+      let bytes = some_step (filled defs message env def.0.fields fields segment.0) (λ b. Some (call.Isrt db found.0 b))
       asked segment.2 in
       let same : call.Isrt db found.0 bytes.0 ≡ asked = let e = bytes.2 in cc in
       let stands = stand db def.0 def.1 in
@@ -206,7 +207,7 @@ module _ (defs : Defs) (message : Message) (env : Env) (well : AllByRecursion Is
       → AllByRecursion (IsShownSegment defs) env.shown → repl_call defs message env db fields ≡ Some asked
       → IsMsdbCall defs.msdbs asked
   fit_repl db fields asked h all is =
-      let shown = made (shown_on db env) (λ s. layout_of defs db s.type_number >>=
+      let shown = some_step (shown_on db env) (λ s. layout_of defs db s.type_number >>=
       (λ l. filled defs message env l.fields fields s.bytes >>= (λ b. Some (call.Repl db b)))) asked is in
       let its = shown_at (IsShownSegment defs) env.shown db shown.0 all shown.1 in
       let there = defined db h in
@@ -220,7 +221,7 @@ module _ (defs : Defs) (message : Message) (env : Env) (well : AllByRecursion Is
       asked =
       sym (ap (λ (o : Option Layout). o >>= (λ l. filled defs message env l.fields fields shown.0.bytes >>=
       (λ b. Some (call.Repl db b)))) (layout_is defs db shown.0.type_number def at)) ∙ shown.2 in
-      let bytes = made (filled defs message env def.fields fields shown.0.bytes) (λ b. Some (call.Repl db b)) asked
+      let bytes = some_step (filled defs message env def.fields fields shown.0.bytes) (λ b. Some (call.Repl db b)) asked
       layout in
       let same : call.Repl db bytes.0 ≡ asked = let e = bytes.2 in cc in
       subst (λ (c : Call). IsMsdbCall defs.msdbs c) same (

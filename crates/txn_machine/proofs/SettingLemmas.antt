@@ -1,11 +1,10 @@
 -- Variables in a map, found as the definitions find them.
 use Rattle.std.proofs.Common.{◌≡◌, ◌∙◌, refl, sym, ap, ℕ, List, [], ◌∷◌, map, Bool, true, false, cond, Option, Some, None}
-use Rattle.std.specs.Prelude.{find, unwrap_or, ◌==◌, ◌&&◌}
+use Rattle.std.specs.Prelude.{find, unwrap_or}
 use Rattle.std.specs.Option.{option_map_or}
 use Rattle.std.specs.Cmp.Lexicographic.{texts_ties}
 use Rattle.std.specs.BTreeMap.{BTreeMap, get, is_at}
 use Rattle.std.specs.Map.{lookup}
-use Rattle.std.proofs.lemmas.Bool.{eqb-true, eqb-false}
 use Rattle.fp_model.specs.declared.name.Name.{Name}
 use Rattle.fp_model.specs.Texts.{same_text}
 use Rattle.fp_model.specs.Operands.{Env, Setting, with_setting, setting_of}
@@ -13,26 +12,11 @@ use Rattle.txn_lang.specs.Numbers.{name_cmp}
 use Rattle.txn_machine.specs.declared.known.Known.{Known}
 use Rattle.txn_machine.specs.Knowing.{setting_in, env_of}
 use Rattle.txn_machine.specs.inside.Alike.{AreAlike}
-
-eq_sym : (a b : ℕ) → (a == b) ≡ (b == a)
-eq_sym a b = both (a == b) (b == a) refl refl
-  where
-    both : (p q : Bool) → (a == b) ≡ p → (b == a) ≡ q → p ≡ q
-    both true true h g = refl
-    both false false h g = refl
-    both true false h g = absurd (eqb-false b a g (sym (eqb-true a b h)))
-    both false true h g = absurd (eqb-false a b h (sym (eqb-true b a g)))
-
-same_sym : (a b : List ℕ) → same_text a b ≡ same_text b a
-same_sym [] [] = refl
-same_sym [] (y ∷ ys) = refl
-same_sym (x ∷ xs) [] = refl
-same_sym (x ∷ xs) (y ∷ ys) = ap (λ (p : Bool). p && same_text xs ys) (eq_sym x y) ∙ ap (λ (p : Bool). (y == x) && p)
-    (same_sym xs ys)
+use Rattle.model_laws.proofs.Texts.{text-flipped}
 
 -- a name's order ties with an entry's where that is its variable
 ties : (a b : List ℕ) → is_at (name_cmp (record { 0 = a })) (record { 0 = b }) ≡ same_text b a
-ties a b = sym (texts_ties a b) ∙ same_sym a b
+ties a b = sym (texts_ties a b) ∙ text-flipped a b
 
 either_text : (b : Bool) (s : Setting) (m : Option Setting) (o : Option (List ℕ))
     → option_map_or (λ (s : Setting). s.text) m [] ≡ unwrap_or o []

@@ -38,21 +38,14 @@ use Rattle.txn_machine.specs.Fit.{AreShown, IsShownSegment, type_shown}
 use Rattle.txn_machine.specs.Knowing.{env_of}
 use Rattle.txn_machine.specs.Running.{IsSuitedNext}
 use Rattle.txn_machine.specs.inside.Stepping.{IsEnd}
-use Rattle.txn_machine.proofs.FitLemmas.{empty_length, filled_length, fitted_length, given_length, made, mapped, shown_at}
+use Rattle.txn_machine.proofs.FitLemmas.{empty_length, filled_length, fitted_length, given_length, mapped, shown_at}
 use Rattle.txn_machine.proofs.FitStatements.{asked_of, fit_fld, fit_get, fit_isrt, fit_out, fit_repl, reply_asks, set_asks}
 use Rattle.txn_machine.proofs.StatementLemmas.{run_out}
+use Rattle.plain_laws.proofs.Places.{get_there}
+use Rattle.model_laws.proofs.Texts.{some_step}
+use Rattle.std.proofs.lemmas.Option.{slice_get_within}
 
 -- ---- definitions
-
-place_within : {A : Type 0} (xs : List A) (n : ℕ) (x : A) → slice_get xs n ≡ Some x → n < length xs
-place_within [] n x at = absurd cc
-place_within (y ∷ ys) zero x at = omega arith
-place_within (y ∷ ys) (suc n) x at = let later = place_within ys n x at in omega (arith, later)
-
-found_within : {A : Type 0} (xs : List A) (n : ℕ) → n < length xs → (x : A) × (slice_get xs n ≡ Some x)
-found_within [] n less = absurd (omega arith)
-found_within (x ∷ xs) zero less = (x, refl)
-found_within (x ∷ xs) (suc n) less = found_within xs n (omega arith)
 
 holds_at : {A : Type 0} (P : A → Type 0) (xs : List A) (n : ℕ) (x : A) → AllByRecursion P xs → slice_get xs n ≡ Some x
     → P x
@@ -100,7 +93,7 @@ module _ (defs : Defs) where
 
       by : (o : Option MsdbDef) → slice_get defs.msdbs db ≡ o → Named db
       by (Some def) there =
-          let within = place_within defs.msdbs db def there in
+          let within = slice_get_within defs.msdbs db def there in
           is_main (grind (arith, nat_tests, within))
       by None none = in_entries none (slice_get defs.dedbs (db - length defs.msdbs)) refl
           (ap (λ (o : Option MsdbDef). option_map_or (λ d. OnMsdb d db) o (dedb_target defs (db - length defs.msdbs)))
@@ -135,7 +128,7 @@ module _ (defs : Defs) where
         }))) ≡ Some layout =
         sym (ap (λ (o : Option DedbDef). o >>= (λ d. slice_get d.segments type >>=
         (λ s. Some (record { fields = s.fields; has_key = not s.sequential })))) there) ∙ behind in
-        let seg = made (slice_get def.segments type) (λ s. Some (record {
+        let seg = some_step (slice_get def.segments type) (λ s. Some (record {
           fields = s.fields;
           has_key = not s.sequential;
         })) layout of_def in
@@ -159,9 +152,9 @@ module _ (defs : Defs) where
         → (seg : SegDef) × (slice_get def.segments type ≡ Some seg)
         × ((seg.sequential ≡ true) ⊎ (length key ≡ key_length seg.fields))
     key_typed type operand key is =
-        let text = made (text_of defs message env operand) (λ t. layout_of defs db type >>= (λ l. fitted_key l t)) key is
+        let text = some_step (text_of defs message env operand) (λ t. layout_of defs db type >>= (λ l. fitted_key l t)) key is
         in
-        let layout = made (layout_of defs db type) (λ l. fitted_key l text.0) key text.2 in
+        let layout = some_step (layout_of defs db type) (λ l. fitted_key l text.0) key text.2 in
         let seg = layout_is type layout.0 layout.1 in
         let fit = subst (λ (l : Layout). fitted_key l text.0 ≡ Some key) seg.2 layout.2 in
         (seg.0, seg.1, key_long seg.0 text.0 key fit)
@@ -171,7 +164,7 @@ module _ (defs : Defs) where
         → FitsSsa def.segments ssa × (ssa.segment ≡ type)
     ssa_fits type None ssa less is =
         let same : record { segment = type; key = None } ≡ ssa = cc in
-        let seg = found_within def.segments type (ltb-true type (length def.segments) less) in
+        let seg = get_there def.segments type (ltb-true type (length def.segments) less) in
         subst (λ (s : Ssa). FitsSsa def.segments s × (s.segment ≡ type)) same
         (record { def = seg.0; named = seg.1; key_fits = inr tt }, refl)
     ssa_fits type (Some operand) ssa less is =
@@ -191,9 +184,9 @@ module _ (defs : Defs) where
         let same : [] ≡ list = cc in
         (subst (AreFitSsas def.segments) same tt, sym (ap length same), λ some. absurd (omega (arith, some)))
     ssas_fit (s ∷ ss) list first h is =
-        let a = made (ssa_of defs message env db s) (λ x. ssas_of defs message env db ss >>= (λ more. Some (x ∷ more)))
+        let a = some_step (ssa_of defs message env db s) (λ x. ssas_of defs message env db ss >>= (λ more. Some (x ∷ more)))
         list is in
-        let others = made (ssas_of defs message env db ss) (λ more. Some (a.0 ∷ more)) list a.2 in
+        let others = some_step (ssas_of defs message env db ss) (λ more. Some (a.0 ∷ more)) list a.2 in
         let same : a.0 ∷ others.0 ≡ list = let e = others.2 in cc in
         let parts = and_parts (nat_lt s.segment (length def.segments)) _ h in
         let one = ssa_fits s.segment s.key a.0 parts.0 a.1 in
@@ -299,9 +292,9 @@ module _ (defs : Defs) (message : Message) (env : Env) (well : AllByRecursion Is
           main_fits defs (shown (database_of asked)) asked
           (fit_fld defs message env well db key fsas asked (rw (within, few) refl) spelled is)
       by few (is_entry def none there target) =
-          let k = made (key_text defs message env db 0 key)
+          let k = some_step (key_text defs message env db 0 key)
           (λ b. fsas_given defs message env fsas >>= (λ l. Some (call.Fld db b (list_text l)))) asked is in
-          let l = made (fsas_given defs message env fsas) (λ l. Some (call.Fld db k.0 (list_text l))) asked k.2 in
+          let l = some_step (fsas_given defs message env fsas) (λ l. Some (call.Fld db k.0 (list_text l))) asked k.2 in
           let same : call.Fld db k.0 (list_text l.0) ≡ asked = let e = l.2 in cc in
           let long = given_length defs message env fsas l.0 l.1 in
           let ends = and_parts (nat_le 1 (length fsas)) (nat_le (length fsas) 255) few in
@@ -330,17 +323,17 @@ module _ (defs : Defs) (message : Message) (env : Env) (well : AllByRecursion Is
       by typed new (is_entry def none there target) =
           let its = holds_at IsDedbDef defs.dedbs _ def good there in
           let type : ℕ = new_type defs message ssas in
-          let found = made (ssas_of defs message env db ssas)
+          let found = some_step (ssas_of defs message env db ssas)
           (λ f. layout_of defs db (new_type defs message ssas) >>=
           (λ l. empty_segment l.fields >>= (λ s. filled defs message env l.fields fields s >>=
           (λ b. Some (call.Isrt db f b))))) asked is in
-          let layout = made (layout_of defs db (new_type defs message ssas))
+          let layout = some_step (layout_of defs db (new_type defs message ssas))
           (λ l. empty_segment l.fields >>= (λ s. filled defs message env l.fields fields s >>=
           (λ b. Some (call.Isrt db found.0 b)))) asked found.2 in
-          let segment = made (empty_segment layout.0.fields)
+          let segment = some_step (empty_segment layout.0.fields)
           (λ s. filled defs message env layout.0.fields fields s >>= (λ b. Some (call.Isrt db found.0 b))) asked layout.2
           in
-          let bytes = made (filled defs message env layout.0.fields fields segment.0)
+          let bytes = some_step (filled defs message env layout.0.fields fields segment.0)
           (λ b. Some (call.Isrt db found.0 b)) asked segment.2 in
           let same : call.Isrt db found.0 bytes.0 ≡ asked = let e = bytes.2 in cc in
           let types = sym (ap (λ t. has_types t ssas) target) ∙ typed in
@@ -367,15 +360,15 @@ module _ (defs : Defs) (message : Message) (env : Env) (well : AllByRecursion Is
           main_fits defs (shown (database_of asked)) asked (fit_repl defs message env well db fields asked within all is)
       by (is_entry def none there target) =
           let its = holds_at IsDedbDef defs.dedbs _ def good there in
-          let seen = made (shown_on db env) (λ s. layout_of defs db s.type_number >>=
+          let seen = some_step (shown_on db env) (λ s. layout_of defs db s.type_number >>=
           (λ l. filled defs message env l.fields fields s.bytes >>= (λ b. Some (call.Repl db b)))) asked is in
           let one = shown_at (IsShownSegment defs) env.shown db seen.0 all seen.1 in
           let whole : has_length def.segments seen.0.type_number seen.0.bytes ≡ true =
           subst (λ (t : Target). IsShownOf t seen.0.type_number seen.0.bytes) (ap (target_of defs) one.1 ∙ target) one.0
           in
-          let layout = made (layout_of defs db seen.0.type_number)
+          let layout = some_step (layout_of defs db seen.0.type_number)
           (λ l. filled defs message env l.fields fields seen.0.bytes >>= (λ b. Some (call.Repl db b))) asked seen.2 in
-          let bytes = made (filled defs message env layout.0.fields fields seen.0.bytes) (λ b. Some (call.Repl db b))
+          let bytes = some_step (filled defs message env layout.0.fields fields seen.0.bytes) (λ b. Some (call.Repl db b))
           asked layout.2 in
           let same : call.Repl db bytes.0 ≡ asked = let e = bytes.2 in cc in
           let long = new_bytes defs message env db def none there its seen.0.type_number layout.0 fields seen.0.bytes
@@ -389,7 +382,7 @@ module _ (defs : Defs) (message : Message) (env : Env) (well : AllByRecursion Is
     where
       by : Named defs db → Fits (call.Dlet db)
       by (is_main within) =
-          let found = found_within defs.msdbs db (ltb-true db (length defs.msdbs) within) in
+          let found = get_there defs.msdbs db (ltb-true db (length defs.msdbs) within) in
           main_fits defs (shown db) (call.Dlet db) (found.0, found.1, tt)
       by (is_entry def none there target) = entry_fits db _ def (call.Dlet db) refl target tt
 

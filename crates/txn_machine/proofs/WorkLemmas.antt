@@ -7,7 +7,6 @@ use Rattle.fp_model.specs.declared.scripts.Statement.{out-Statement, map-Stateme
 use Rattle.fp_model.specs.declared.scripts.Statement.TheOpen.{Statement-F, Set, If, Repeat, Break, Reply, Roll, Get, Fld, Isrt, Repl, Dlet}
 use Rattle.fp_model.specs.declared.scripts.Statement.TheFolds.{fold_out-Statement}
 use Rattle.txn_machine.specs.inside.Work.{work_step}
-use Rattle.txn_machine.proofs.EndLemmas.{drop_here}
 use Rattle.fp_model.specs.declared.scripts.Statement.{Statement}
 use Rattle.txn_machine.specs.declared.place.Place.{Place}
 use Rattle.txn_machine.specs.declared.place.Frame.{Frame}
@@ -15,6 +14,7 @@ use Rattle.txn_machine.specs.declared.place.Frame.TheVariants as frame
 use Rattle.txn_machine.specs.Places.{inner, block_at}
 use Rattle.txn_machine.specs.inside.Work.{statement_work, work_from, work_beyond, work_around, work}
 use Rattle.txn_machine.proofs.PlaceLemmas.{block_push}
+use Rattle.plain_laws.proofs.Places.{drop_got}
 
 pub work_push : (fs : List Frame) (f : Frame) (block : List Statement)
     → work_around (fs ++ f ∷ []) block ≡ work_around fs block + work_beyond f (block_at fs block)
@@ -112,5 +112,5 @@ some_work s =
 -- a statement, and the rest of its block
 pub work_here : (block : List Statement) (at : ℕ) (s : Statement) → slice_get block at ≡ Some s
     → work_from at block ≡ statement_work s + work_from (at + 1) block
-work_here block at s here = ap (λ (ss : List Statement). sum (map statement_work ss)) (drop_here block at s here) ∙
+work_here block at s here = ap (λ (ss : List Statement). sum (map statement_work ss)) (drop_got block at s here) ∙
     sum_by-cons (λ (n : ℕ). n) (statement_work s) (map statement_work (drop (at + 1) block))

@@ -1,13 +1,11 @@
 -- Reading parts one after another, as a loop does.
 use Rattle.std.proofs.Common.{◌≡◌, ℕ, zero, suc, ◌≤◌, ◌<◌, Bool, true, false, List, [], ◌∷◌, ◌++◌, length, Some, None, Ok, Err, refl, sym, ap, subst, ◌∙◌, append_assoc, arith, if◌then◌else◌}
-use Rattle.std.specs.Prelude.{◌==◌}
-use Rattle.std.proofs.lemmas.Bool.{eqb-true}
+use Rattle.std.specs.Prelude.{◌≢◌, ok_or}
 use Rattle.std.proofs.lemmas.List.{append-nil}
 use Rattle.txn_tokens.specs.declared.fault.LineFault.{LineFault}
-use Rattle.txn_tokens.specs.declared.fault.LineFault.TheVariants.{Syntax, UnknownName, Memory}
-use Rattle.txn_tokens.specs.Readings.{Reading, many, all_by, Fails}
+use Rattle.txn_tokens.specs.declared.fault.LineFault.TheVariants.{Syntax, Memory}
+use Rattle.txn_tokens.specs.Readings.{Reading, many, all_by}
 use Rattle.fp_model.specs.Readings.{◌>>=◌}
-use Rattle.txn_tokens.specs.Tokens.{or_syntax}
 
 -- what a reading leaves is shorter than so many
 abbrev pub IsShorter : {X A : Type 0} → ℕ → Reading (A × List X) → Type 0
@@ -29,7 +27,7 @@ shorter_bind n (Ok b) f h = h b refl
 shorter_bind n (Err e) f h = tt
 
 pub shorter_option : {X A B : Type 0} (n : ℕ) (c : Bool) (x : B) (f : B → Reading (A × List X))
-    → (c ≡ true → IsShorter n (f x)) → IsShorter n (or_syntax (if c then Some x else None) >>= f)
+    → (c ≡ true → IsShorter n (f x)) → IsShorter n (ok_or (if c then Some x else None) Syntax >>= f)
 shorter_option n true x f h = h refl
 shorter_option n false x f h = tt
 
@@ -91,11 +89,9 @@ module _ {X A : Type 0} (part : List X → Reading (A × List X)) (shrinks : Shr
       (all_by part rest)) ∙ so_far
 
   pub fails : (e : LineFault) (front : List A) (xs : List X) (total : Reading (List A)) → 0 < length xs
-      → Fails e (part xs)
-      → with_front front (all_by part xs) ≡ total → Fails e total
-  fails Memory front xs total lt is so_far = tt
-  fails Syntax front xs total lt is so_far = sym so_far ∙ ap (with_front front) (all_fails Syntax xs lt is)
-  fails UnknownName front xs total lt is so_far = sym so_far ∙ ap (with_front front) (all_fails UnknownName xs lt is)
+      → (e ≢ Memory → part xs ≡ Err e)
+      → with_front front (all_by part xs) ≡ total → e ≢ Memory → total ≡ Err e
+  fails e front xs total lt is so_far other = sym so_far ∙ ap (with_front front) (all_fails e xs lt (is other))
 
 pub is_done : {X A : Type 0} (part : List X → Reading (A × List X)) (front : List A) (xs : List X)
     (total : Reading (List A)) → xs ≡ []
@@ -108,12 +104,3 @@ is_done {X = X} {A = A} part front xs total none so_far =
 pub with_nothing : {A : Type 0} (read : Reading (List A)) → with_front [] read ≡ read
 with_nothing (Ok xs) = refl
 with_nothing (Err e) = refl
-
--- what a loop's test says
-pub is_some : {X : Type 0} (xs : List X) → (length xs == 0) ≡ false → 0 < length xs
-is_some [] is = absurd cc
-is_some (x ∷ xs) is = omega arith
-
-pub is_nil : {X : Type 0} (xs : List X) → (length xs == 0) ≡ true → xs ≡ []
-is_nil [] is = refl
-is_nil (x ∷ xs) is = absurd (omega (arith, eqb-true (suc (length xs)) 0 is))

@@ -9,35 +9,20 @@ found_is : (test : Bool) (n i : ℕ) → cond test (Some n) None ≡ Some i → 
 found_is true n i e = (refl, search rules)
 found_is false n i e = absurd cc
 
-none_is : (n m : ℕ) → cond (nat_lt n m) (Some n) None ≡ None → m ≤ n
-none_is n m e = grind (arith, rules)
-
--- the place that was found
-pub place_is : {X : Type 0} (p : X → Bool) (xs : List X) (i : ℕ)
-    → cond (nat_lt (position_or_len p xs) (length xs)) (Some (position_or_len p xs)) None ≡ Some i
-    → position_or_len p xs ≡ i
-place_is p xs i e = (found_is _ _ _ e).1
-
 pub place_within : {X : Type 0} (p : X → Bool) (xs : List X) (i : ℕ)
     → cond (nat_lt (position_or_len p xs) (length xs)) (Some (position_or_len p xs)) None ≡ Some i → i < length xs
 place_within p xs i e = let found = found_is _ _ _ e in rw (← found.1) (ltb-true _ _ found.0)
-
--- none was found
-pub whole_is : {X : Type 0} (p : X → Bool) (xs : List X)
-    → cond (nat_lt (position_or_len p xs) (length xs)) (Some (position_or_len p xs)) None ≡ None
-    → length xs ≤ position_or_len p xs
-whole_is p xs e = none_is _ _ e
 
 -- what stands behind so many
 pub behind_take : {X : Type 0} (n : ℕ) (xs : List X) → drop (length (take n xs)) xs ≡ drop n xs
 behind_take n xs = grind (arith, common_steps)
 
-pub behind_is : (test : ℕ → Bool) (bytes : List ℕ) (i : ℕ) → position_or_len (λ b. not (test b)) bytes ≡ i
+pub behind_is : {X : Type 0} (test : X → Bool) (bytes : List X) (i : ℕ) → position_or_len (λ b. not (test b)) bytes ≡ i
     → behind test bytes ≡ drop i bytes
 behind_is test bytes i e = behind_take (position_or_len (λ b. not (test b)) bytes) bytes ∙ ap (λ n. drop n bytes) e
 
-pub behind_none : (test : ℕ → Bool) (bytes : List ℕ) → length bytes ≤ position_or_len (λ b. not (test b)) bytes
-    → behind test bytes ≡ []
+pub behind_none : {X : Type 0} (test : X → Bool) (bytes : List X)
+    → length bytes ≤ position_or_len (λ b. not (test b)) bytes → behind test bytes ≡ []
 behind_none test bytes le = behind_take (position_or_len (λ b. not (test b)) bytes) bytes ∙ grind (arith, common_steps)
 
 pub drop_past : {X : Type 0} (n : ℕ) (xs : List X) → length xs ≤ n → drop n xs ≡ []

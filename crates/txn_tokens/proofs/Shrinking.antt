@@ -2,6 +2,7 @@
 use Rattle.std.proofs.Common.{◌≡◌, ℕ, suc, ◌+◌, ◌≤◌, ◌<◌, Bool, true, false, List, [], ◌∷◌, length, drop, Ok, Err, arith}
 use Rattle.std.specs.Prelude.{◌&&◌, ◌==◌, nat_le, nat_lt, slice_index, codes}
 use Rattle.std.specs.List.{list_all, position_or_len, before_first}
+use Rattle.std.specs.Char.{is_ascii_digit}
 use Rattle.std.specs.Str.{all_ascii_digits}
 use Rattle.std.proofs.lemmas.Bool.{and_parts, leb-true}
 use Rattle.std.proofs.lemmas.List.{length-drop}
@@ -11,7 +12,7 @@ use Rattle.fp_model.specs.Messages.{is_separator}
 use Rattle.txn_tokens.specs.declared.token.Token.{Token}
 use Rattle.txn_tokens.specs.Readings.{Reading}
 use Rattle.fp_model.specs.Readings.{◌>>=◌}
-use Rattle.txn_tokens.specs.Tokens.{run, behind, unblanked, is_digit, is_sign, begins, begins_with, field_token, letter_token, number_token, text_token, hash_token, token_at, spaced_token_at}
+use Rattle.txn_tokens.specs.Tokens.{run, behind, unblanked, is_sign, begins, begins_with, field_token, letter_token, number_token, text_token, hash_token, token_at, spaced_token_at}
 use Rattle.txn_tokens.proofs.ReadingLemmas.{IsShorter, Shrinks, shorter_if, shorter_option}
 
 pub behind_le : (test : ℕ → Bool) (bytes : List ℕ) → length (behind test bytes) ≤ length bytes
@@ -60,16 +61,17 @@ number_shrinks : (negative : Bool) (bytes : List ℕ) → 0 < length bytes
     → IsShorter (length bytes) (number_token negative bytes)
 unfolding number_token
 number_shrinks negative bytes some =
-    shorter_option (length bytes) (nat_le 1 (length (run is_digit bytes)) && nat_le (length (run is_digit bytes)) 31 &&
-    all_ascii_digits (run is_digit bytes)) _ _
-    (λ is. behind_lt is_digit bytes some (some_digits (run is_digit bytes) is))
+    shorter_option (length bytes) (nat_le 1 (length (run is_ascii_digit bytes))
+    && nat_le (length (run is_ascii_digit bytes)) 31 &&
+    all_ascii_digits (run is_ascii_digit bytes)) _ _
+    (λ is. behind_lt is_ascii_digit bytes some (some_digits (run is_ascii_digit bytes) is))
 
 negative_shrinks : (bytes : List ℕ) → IsShorter (suc (length bytes)) (number_token true bytes)
 unfolding number_token
 negative_shrinks bytes =
-    shorter_option (suc (length bytes)) (nat_le 1 (length (run is_digit bytes)) && nat_le (length (run is_digit bytes))
-    31 && all_ascii_digits (run is_digit bytes)) _ _
-    (λ is. omega (arith, behind_le is_digit bytes))
+    shorter_option (suc (length bytes)) (nat_le 1 (length (run is_ascii_digit bytes))
+    && nat_le (length (run is_ascii_digit bytes)) 31 && all_ascii_digits (run is_ascii_digit bytes)) _ _
+    (λ is. omega (arith, behind_le is_ascii_digit bytes))
 
 text_shrinks : (bytes : List ℕ) → IsShorter (suc (length bytes)) (text_token bytes)
 unfolding text_token
@@ -83,7 +85,7 @@ text_shrinks bytes =
 hash_shrinks : (bytes : List ℕ) → IsShorter (suc (length bytes)) (hash_token bytes)
 unfolding hash_token
 hash_shrinks [] = tt
-hash_shrinks (b ∷ bs) = shorter_if (suc (suc (length bs))) (is_digit b) _ _ (λ is. omega arith) (λ is. tt)
+hash_shrinks (b ∷ bs) = shorter_if (suc (suc (length bs))) (is_ascii_digit b) _ _ (λ is. omega arith) (λ is. tt)
 
 pub token_shrinks : (bytes : List ℕ) → IsShorter (length bytes) (token_at bytes)
 unfolding token_at
@@ -91,8 +93,8 @@ token_shrinks [] = tt
 token_shrinks (b ∷ bs) =
     let n : ℕ = suc (length bs) in
     shorter_if n (is_letter b) _ _ (λ is. letter_shrinks (b ∷ bs) (omega arith)) (λ not.
-    shorter_if n (is_digit b) _ _ (λ is. number_shrinks false (b ∷ bs) (omega arith)) (λ not.
-    shorter_if n (b == 45 && begins is_digit bs) _ _ (λ is. negative_shrinks bs) (λ not.
+    shorter_if n (is_ascii_digit b) _ _ (λ is. number_shrinks false (b ∷ bs) (omega arith)) (λ not.
+    shorter_if n (b == 45 && begins is_ascii_digit bs) _ _ (λ is. negative_shrinks bs) (λ not.
     shorter_if n (b == 39) _ _ (λ is. text_shrinks bs) (λ not.
     shorter_if n (b == 35) _ _ (λ is. hash_shrinks bs) (λ not.
     shorter_if n (is_sign b) _ _ (λ is. omega arith) (λ not. tt))))))

@@ -1,10 +1,10 @@
 -- What reading a part of a text gives.
-use Rattle.std.specs.Prelude.{◌≡◌, ⊤, ℕ, zero, suc, List, [], ◌∷◌, length, Result, Ok, Err}
+use Rattle.std.specs.Prelude.{ℕ, zero, suc, List, [], ◌∷◌, length, Result, Ok, Err}
 use Rattle.txn_tokens.specs.declared.fault.LineFault.{LineFault}
-use Rattle.txn_tokens.specs.declared.fault.LineFault.TheVariants.{Syntax, UnknownName, Memory}
-use Rattle.fp_model.specs.Readings.{◌>>=◌}
+use Rattle.txn_tokens.specs.declared.fault.LineFault.TheVariants.{Syntax, Memory}
+use Rattle.fp_model.specs.Readings.{◌>>=◌, GivesBut}
 
--- a part that was read, or why the line is none; no reading fails for want of memory, which only the code knows
+-- a part that was read, or why the line is no statement; no reading fails for want of memory, which only the code knows
 abbrev pub Reading : Type 0 → Type 0
 Reading A = Result A LineFault
 
@@ -26,15 +26,6 @@ abbrev pub ended : {X A : Type 0} → A → List X → Reading A
 ended x [] = Ok x
 ended x (y ∷ ys) = Err Syntax
 
--- ---- what a function's contract says
-
--- a refusal is the one that reading gives; want of memory says nothing
-abbrev pub Fails : {Y : Type 0} → LineFault → Reading Y → Type 0
-Fails Syntax read = read ≡ Err Syntax
-Fails UnknownName read = read ≡ Err UnknownName
-Fails Memory read = ⊤
-
--- a function's result, seen through a view, is what reading gives, unless memory ran out
+-- What a function returned, seen by a view, is the reading, unless memory ran out.
 abbrev pub Gives : {X Y : Type 0} → (X → Y) → Result X LineFault → Reading Y → Type 0
-Gives view (Ok x) read = read ≡ Ok (view x)
-Gives view (Err e) read = Fails e read
+Gives view result reading = GivesBut Memory view result reading

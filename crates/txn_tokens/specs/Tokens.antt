@@ -1,5 +1,5 @@
 -- The tokens of a line.
-use Rattle.std.specs.Prelude.{ℕ, List, [], ◌∷◌, length, drop, Bool, true, false, not, ◌&&◌, ◌==◌, nat_le, nat_lt, ◌-◌, if◌then◌else◌, codes, Option, Some, None, Ok, Err, ℤ, pos, neg_ℤ}
+use Rattle.std.specs.Prelude.{ℕ, List, [], ◌∷◌, length, drop, Bool, true, false, not, ◌&&◌, ◌==◌, nat_le, nat_lt, ◌-◌, if◌then◌else◌, codes, ok_or, Ok, Err, ℤ, pos, neg_ℤ}
 use Rattle.std.specs.List.{list_all, list_any, before_first, after_first}
 use Rattle.std.specs.Char.{is_ascii_digit}
 use Rattle.fp_model.specs.Texts.{same_text, is_printable, digits_number}
@@ -11,24 +11,16 @@ use Rattle.txn_tokens.specs.declared.token.Token.TheVariants.{Word, Number, Text
 use Rattle.txn_tokens.specs.Readings.{Reading, all_by}
 use Rattle.fp_model.specs.Readings.{◌>>=◌}
 
--- what is there, or a line that is no statement
-abbrev pub or_syntax : {A : Type 0} → Option A → Reading A
-or_syntax None = Err Syntax
-or_syntax (Some x) = Ok x
+-- the longest front whose elements pass a test, and what stands behind it
+abbrev pub run : {X : Type 0} → (X → Bool) → List X → List X
+run test xs = before_first (λ x. not (test x)) xs
 
--- the longest front whose bytes pass a test, and what stands behind it
-abbrev pub run : (ℕ → Bool) → List ℕ → List ℕ
-run test bytes = before_first (λ b. not (test b)) bytes
-
-abbrev pub behind : (ℕ → Bool) → List ℕ → List ℕ
-behind test bytes = drop (length (run test bytes)) bytes
+abbrev pub behind : {X : Type 0} → (X → Bool) → List X → List X
+behind test xs = drop (length (run test xs)) xs
 
 -- without the blanks in front; a blank is a space or a tab
 abbrev pub unblanked : List ℕ → List ℕ
 unblanked bytes = behind is_separator bytes
-
-abbrev pub is_digit : ℕ → Bool
-is_digit b = is_ascii_digit b
 
 -- whether a text begins with a byte that passes a test
 abbrev pub begins : (ℕ → Bool) → List ℕ → Bool
@@ -40,16 +32,16 @@ begins_with byte bytes = begins (λ b. b == byte) bytes
 
 -- ---- one token, and what stands behind it
 
--- a word: letters and digits, a letter first, 1 to 8 of them
+-- a word: letters and digits, a letter first, 1 to 8 of them; it notes whether a `=` stands directly behind
 abbrev pub word_token : List ℕ → List ℕ → Reading (Token × List ℕ)
 word_token letters rest = do
-  name ← or_syntax (name_in letters)
+  name ← ok_or (name_in letters) Syntax
   Ok (Word name (begins_with 61 rest), rest)
 
 -- `IO.`, here without it, and a word directly behind
 abbrev pub field_token : List ℕ → Reading (Token × List ℕ)
 field_token bytes = do
-  name ← or_syntax (name_in (run is_letter_or_digit bytes))
+  name ← ok_or (name_in (run is_letter_or_digit bytes)) Syntax
   Ok (Field name, behind is_letter_or_digit bytes)
 
 -- what begins with a letter
@@ -67,8 +59,8 @@ signed false n = pos n
 -- 1 to 31 digits, and whether a `-` stands before them
 unfoldable pub number_token : Bool → List ℕ → Reading (Token × List ℕ)
 number_token negative bytes = do
-  n ← or_syntax (digits_number (run is_digit bytes))
-  Ok (Number (signed negative n), behind is_digit bytes)
+  n ← ok_or (digits_number (run is_ascii_digit bytes)) Syntax
+  Ok (Number (signed negative n), behind is_ascii_digit bytes)
 
 -- a text, here without its first quote: at most 1,000 printable bytes up to the next quote, which there must be
 unfoldable pub text_token : List ℕ → Reading (Token × List ℕ)
@@ -81,7 +73,7 @@ text_token bytes =
 -- `#`, here without it, and one digit
 unfoldable pub hash_token : List ℕ → Reading (Token × List ℕ)
 hash_token [] = Err Syntax
-hash_token (b ∷ bs) = if is_digit b then Ok (Hash (b - 48), bs) else Err Syntax
+hash_token (b ∷ bs) = if is_ascii_digit b then Ok (Hash (b - 48), bs) else Err Syntax
 
 -- one of `( ) = + - * &`
 abbrev pub is_sign : ℕ → Bool
@@ -92,8 +84,8 @@ unfoldable pub token_at : List ℕ → Reading (Token × List ℕ)
 token_at [] = Err Syntax
 token_at (b ∷ bs) =
     if is_letter b then letter_token (b ∷ bs)
-    else if is_digit b then number_token false (b ∷ bs)
-    else if b == 45 && begins is_digit bs then number_token true bs
+    else if is_ascii_digit b then number_token false (b ∷ bs)
+    else if b == 45 && begins is_ascii_digit bs then number_token true bs
     else if b == 39 then text_token bs
     else if b == 35 then hash_token bs
     else if is_sign b then Ok (Sign b, bs)
@@ -103,9 +95,7 @@ token_at (b ∷ bs) =
 
 -- the token that a text begins with, and what stands behind the blanks behind it
 unfoldable pub spaced_token_at : List ℕ → Reading (Token × List ℕ)
-spaced_token_at bytes = do
-  token ← token_at bytes
-  Ok (token.0, unblanked token.1)
+spaced_token_at bytes = token_at bytes >>= λ token. Ok (token.0, unblanked token.1)
 
 -- the tokens of a line, each as long as it can be
 unfoldable pub tokens_of : List ℕ → Reading (List Token)

@@ -1,6 +1,7 @@
 //! Looks up in the definitions what a statement names.
-ghost use Rattle.std.specs.Prelude.{◌≡◌, ◌≤◌, length, position};
-ghost use Rattle.std.specs.List.{list_all};
+ghost use Rattle.std.specs.Prelude.{◌≡◌, ◌≤◌, ◌∷◌, [], length, position, if◌then◌else◌, Ok, Err};
+ghost use Rattle.std.specs.List.{list_all, list_any};
+ghost use Rattle.txn_tokens.specs.declared.fault.LineFault.TheVariants.{UnknownName};
 ghost use Rattle.txn_tokens.specs.Readings.{Gives};
 ghost use Rattle.txn_tokens.specs.Lookups as lookups;
 ghost use Rattle.txn_tokens.specs.Lookups.{HaveByteNumbers};
@@ -28,7 +29,7 @@ fn has_field(fields: &[FieldDef], name: &Name) -> bool
 
 // Whether a segment of some main storage database has a field of this name.
 fn is_msdb_field(msdbs: &[MsdbDef], name: &Name) -> bool
-    ensures { result ≡ lookups.is_msdb_field msdbs.now name.now }
+    ensures { result ≡ list_any (λ def. lookups.has_field def.fields name.now) msdbs.now }
 {
     msdbs
         .iter()
@@ -37,7 +38,7 @@ fn is_msdb_field(msdbs: &[MsdbDef], name: &Name) -> bool
 
 // Whether one of these segment types has a field of this name.
 fn is_type_field(types: &[SegDef], name: &Name) -> bool
-    ensures { result ≡ lookups.is_type_field types.now name.now }
+    ensures { result ≡ list_any (λ def. lookups.has_field def.fields name.now) types.now }
 {
     types
         .iter()
@@ -46,7 +47,8 @@ fn is_type_field(types: &[SegDef], name: &Name) -> bool
 
 // Whether a segment of some data entry database has a field of this name.
 fn is_dedb_field(dedbs: &[DedbDef], name: &Name) -> bool
-    ensures { result ≡ lookups.is_dedb_field dedbs.now name.now }
+    ensures { result ≡ list_any (λ dedb. list_any (λ def. lookups.has_field def.fields name.now) dedb.segments)
+        dedbs.now }
 {
     dedbs
         .iter()
@@ -95,7 +97,6 @@ fn type_place(types: &[SegDef], name: &Name) -> Option<usize>
 
 /// The number of the database of a name: main storage databases have the numbers from 0 on, and data entry databases
 /// those behind. `UnknownName` where none has that name.
-#[tactic(auto, unfolding(crate::specs::Lookups::db_of))]
 pub fn db_of(defs: &Defs, name: &Name) -> Result<u8, LineFault>
     requires numbers { HaveByteNumbers defs.now }
     ensures exact { Gives (λ x. x) result (lookups.db_of defs.now name.now) }
@@ -116,7 +117,7 @@ fn is_msdb(defs: &Defs, db: u8) -> bool
     usize::from(db) < defs.msdbs.len()
 }
 
-// The segment types of a data entry database; none where the number is another's.
+// The segment types of a data entry database. It is asked of the number of one alone.
 fn types_of(defs: &Defs, db: u8) -> &[SegDef]
     ensures { result.now ≡ lookups.types_of defs.now db }
 {
@@ -133,7 +134,7 @@ fn types_of(defs: &Defs, db: u8) -> &[SegDef]
 
 // The SSA of a main storage database.
 fn key_alone(alloc: Global, written: WrittenSsa) -> Result<List<SsaText>, LineFault>
-    ensures { Gives (λ x. x) result (lookups.key_alone written) }
+    ensures { Gives (λ x. x) result (lookups.msdb_ssas (written ∷ [])) }
 {
     let WrittenSsa { name, key } = written;
     match key {
@@ -212,7 +213,7 @@ pub fn get_ssas(
 
 /// The SSAs of ISRT, their names looked up: none on a main storage database, at least one on a data entry database, and
 /// else `Syntax`. `UnknownName` where one names no segment type of it.
-#[tactic(auto, unfolding(crate::specs::Lookups::isrt_ssas))]
+#[tactic(auto, unfolding(crate::specs::Lookups::isrt_ssas, crate::specs::Lookups::dedb_ssas))]
 pub fn isrt_ssas(
     alloc: Global,
     defs: &Defs,
@@ -264,7 +265,8 @@ fn have_fields(fields: &[FieldDef], given: &[FieldText]) -> bool
 
 // The fields that ISRT gives, where a segment type has them.
 fn with_fields(fields: &[FieldDef], given: List<FieldText>) -> Result<List<FieldText>, LineFault>
-    ensures { Gives (λ x. x) result (lookups.with_fields fields.now given) }
+    ensures { Gives (λ x. x) result (if list_all (λ text. lookups.has_field fields.now text.field) given then Ok given
+        else Err UnknownName) }
 {
     if have_fields(fields, given.as_slice()) {
         return Ok(given);

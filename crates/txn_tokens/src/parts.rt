@@ -1,8 +1,9 @@
 //! The parts of a statement: each reads the first tokens of a list, and gives what stands behind them too.
-ghost use Rattle.std.specs.Prelude.{◌≡◌, ◌∷◌, ◌≤◌, ◌<◌, ◌^◌, IfOk};
-ghost use Rattle.fp_model.specs.Texts.{same_text};
+ghost use Rattle.std.specs.Prelude.{◌≡◌, ◌∷◌, Ok};
+ghost use Rattle.fp_model.specs.declared.scripts.Operand.TheVariants as operand;
+ghost use Rattle.fp_model.specs.Texts.{same_text, decimal_text};
+ghost use Rattle.txn_tokens.specs.declared.token.Token.TheVariants as token;
 ghost use Rattle.txn_tokens.specs.Readings.{Gives, all_by};
-ghost use Rattle.txn_tokens.specs.Tokens.{or_syntax};
 ghost use Rattle.txn_tokens.specs.Parts as parts;
 
 use crate::fault::LineFault;
@@ -21,60 +22,24 @@ pub fn is_word(name: &Name, letters: &[u8; 8]) -> bool
     name.0 == *letters
 }
 
-// The next token.
-fn token_in(tokens: &[Token]) -> Result<(&Token, &[Token]), LineFault>
-    ensures { Gives (λ x. (x.0.now, x.1.now)) result (parts.token_in tokens.now) }
-{
-    match tokens {
-        [first, rest @ ..] => Ok((first, rest)),
-        [] => Err(LineFault::Syntax),
-    }
-}
-
-// The name that a word is.
-fn word_of(token: &Token) -> Result<Name, LineFault>
-    ensures { Gives (λ x. x) result (parts.word_of token.now) }
-{
-    match token {
-        Token::Word { name, .. } => Ok(*name),
-        _ => Err(LineFault::Syntax),
-    }
-}
-
 /// The word that a list of tokens begins with. `Syntax` where it begins with none.
 #[tactic(auto, unfolding(crate::specs::Parts::word_at))]
 pub fn word_at(tokens: &[Token]) -> Result<(Name, &[Token]), LineFault>
     ensures exact { Gives (λ x. (x.0, x.1.now)) result (parts.word_at tokens.now) }
 {
-    let (token, rest) = token_in(tokens)?;
-    let name = word_of(token)?;
-    Ok((name, rest))
-}
-
-// Whether a token is this sign.
-fn is_sign(token: &Token, byte: u8) -> bool
-    ensures { result ≡ parts.is_sign_token byte token.now }
-{
-    match token {
-        Token::Sign(sign) => *sign == byte,
-        _ => false,
+    match tokens {
+        [Token::Word { name, .. }, rest @ ..] => Ok((*name, rest)),
+        _ => Err(LineFault::Syntax),
     }
 }
 
-// This sign; gives what stands behind it.
+// What stands behind this sign.
 #[tactic(auto, unfolding(crate::specs::Parts::sign_at))]
 fn sign_at(tokens: &[Token], byte: u8) -> Result<&[Token], LineFault>
-    ensures { Gives (λ x. (byte, x.now)) result (parts.sign_at byte tokens.now) }
+    ensures { Gives (λ x. x.now) result (parts.sign_at byte tokens.now) }
 {
-    let (token, rest) = token_in(tokens)?;
-    match token {
-        Token::Sign(sign) => {
-            if *sign == byte {
-                Ok(rest)
-            } else {
-                Err(LineFault::Syntax)
-            }
-        }
+    match tokens {
+        [Token::Sign(sign), rest @ ..] if *sign == byte => Ok(rest),
         _ => Err(LineFault::Syntax),
     }
 }
@@ -120,7 +85,7 @@ fn word_operand(name: Name) -> Result<Operand, LineFault>
 
 // The operand that a number is: its canonical text.
 fn number_operand(alloc: Global, n: i128) -> Result<Operand, LineFault>
-    ensures { Gives (λ x. x) result (parts.number_operand n) }
+    ensures { Gives (λ x. x) result (Ok (operand.Text (decimal_text n))) }
 {
     let text = n.to_string(alloc)?;
     Ok(Operand::Text(Bytes::from_slice(alloc, text.as_bytes())?))
@@ -146,9 +111,13 @@ fn operand_of(alloc: Global, token: &Token) -> Result<Operand, LineFault>
 pub fn operand_at(alloc: Global, tokens: &[Token]) -> Result<(Operand, &[Token]), LineFault>
     ensures exact { Gives (λ x. (x.0, x.1.now)) result (parts.operand_at tokens.now) }
 {
-    let (token, rest) = token_in(tokens)?;
-    let operand = operand_of(alloc, token)?;
-    Ok((operand, rest))
+    match tokens {
+        [token, rest @ ..] => {
+            let operand = operand_of(alloc, token)?;
+            Ok((operand, rest))
+        }
+        [] => Err(LineFault::Syntax),
+    }
 }
 
 // The operation that a sign stands for.
@@ -164,27 +133,18 @@ fn operation_by(byte: u8) -> Option<Operation>
     }
 }
 
-// The operation that a token is.
-fn operation_of(token: &Token) -> Result<Operation, LineFault>
-    ensures { Gives (λ x. x) result (parts.operation_of token.now) }
-{
-    match token {
-        Token::Sign(byte) => match operation_by(*byte) {
-            Some(operation) => Ok(operation),
-            None => Err(LineFault::Syntax),
-        },
-        _ => Err(LineFault::Syntax),
-    }
-}
-
 /// The operation that a list of tokens begins with: one of `+ - * &`. `Syntax` where it begins with none.
 #[tactic(auto, unfolding(crate::specs::Parts::operation_at))]
 pub fn operation_at(tokens: &[Token]) -> Result<(Operation, &[Token]), LineFault>
     ensures exact { Gives (λ x. (x.0, x.1.now)) result (parts.operation_at tokens.now) }
 {
-    let (token, rest) = token_in(tokens)?;
-    let operation = operation_of(token)?;
-    Ok((operation, rest))
+    match tokens {
+        [Token::Sign(byte), rest @ ..] => match operation_by(*byte) {
+            Some(operation) => Ok((operation, rest)),
+            None => Err(LineFault::Syntax),
+        },
+        _ => Err(LineFault::Syntax),
+    }
 }
 
 // The comparison that a word is.
@@ -224,14 +184,20 @@ pub fn comparison_at(tokens: &[Token]) -> Result<(Comparison, &[Token]), LineFau
     }
 }
 
-// The count that a number is.
-fn count_within(least: u16, greatest: u16, n: i128) -> Result<u16, LineFault>
-    ensures { Gives (λ x. x) result (parts.count_within least greatest n) }
+// The count that a number is, with what stands behind it.
+#[tactic(auto, unfolding(crate::specs::Parts::count_at))]
+fn count_before<'a>(
+    least: u16,
+    greatest: u16,
+    n: i128,
+    rest: &'a [Token],
+) -> Result<(u16, &'a [Token]), LineFault>
+    ensures { Gives (λ x. (x.0, x.1.now)) result (parts.count_at least greatest (token.Number n ∷ rest.now)) }
 {
     if n < i128::from(least) || i128::from(greatest) < n {
         return Err(LineFault::Syntax);
     }
-    Ok(n as u16)
+    Ok((n as u16, rest))
 }
 
 /// The count that a list of tokens begins with: a number from a least one to a greatest, both within. `Syntax` where it
@@ -240,12 +206,8 @@ fn count_within(least: u16, greatest: u16, n: i128) -> Result<u16, LineFault>
 pub fn count_at(tokens: &[Token], least: u16, greatest: u16) -> Result<(u16, &[Token]), LineFault>
     ensures exact { Gives (λ x. (x.0, x.1.now)) result (parts.count_at least greatest tokens.now) }
 {
-    let (token, rest) = token_in(tokens)?;
-    match token {
-        Token::Number(n) => {
-            let count = count_within(least, greatest, *n)?;
-            Ok((count, rest))
-        }
+    match tokens {
+        [Token::Number(n), rest @ ..] => count_before(least, greatest, *n, rest),
         _ => Err(LineFault::Syntax),
     }
 }
@@ -278,8 +240,8 @@ fn begins_bracket(tokens: &[Token]) -> bool
     ensures { result ≡ parts.begins_bracket tokens.now }
 {
     match tokens {
-        [first, ..] => is_sign(first, b'('),
-        [] => false,
+        [Token::Sign(sign), ..] => *sign == b'(',
+        _ => false,
     }
 }
 
@@ -306,24 +268,13 @@ fn ssa_at(alloc: Global, tokens: &[Token]) -> Result<(WrittenSsa, &[Token]), Lin
 }
 
 // What an FSA does: one letter, or `+`, `-` or `=`.
-fn fsa_op_of(token: &Token) -> Result<u8, LineFault>
-    ensures { Gives (λ x. x) result (parts.fsa_op_of token.now) }
+#[tactic(auto, unfolding(crate::specs::Parts::fsa_op_at))]
+fn fsa_op_at(tokens: &[Token]) -> Result<(u8, &[Token]), LineFault>
+    ensures { Gives (λ x. (x.0, x.1.now)) result (parts.fsa_op_at tokens.now) }
 {
-    match token {
-        Token::Word { name, .. } => {
-            if name.0[1] == b' ' {
-                Ok(name.0[0])
-            } else {
-                Err(LineFault::Syntax)
-            }
-        }
-        Token::Sign(byte) => {
-            if matches!(*byte, b'+' | b'-' | b'=') {
-                Ok(*byte)
-            } else {
-                Err(LineFault::Syntax)
-            }
-        }
+    match tokens {
+        [Token::Word { name, .. }, rest @ ..] if name.0[1] == b' ' => Ok((name.0[0], rest)),
+        [Token::Sign(byte), rest @ ..] if matches!(*byte, b'+' | b'-' | b'=') => Ok((*byte, rest)),
         _ => Err(LineFault::Syntax),
     }
 }
@@ -334,8 +285,7 @@ fn fsa_at(alloc: Global, tokens: &[Token]) -> Result<(FsaText, &[Token]), LineFa
     ensures { Gives (λ x. (x.0, x.1.now)) result (parts.fsa_at tokens.now) }
 {
     let (field, rest) = word_at(tokens)?;
-    let (token, rest) = token_in(rest)?;
-    let op = fsa_op_of(token)?;
+    let (op, rest) = fsa_op_at(rest)?;
     let (operand, rest) = operand_at(alloc, rest)?;
     Ok((FsaText { field, op, operand }, rest))
 }

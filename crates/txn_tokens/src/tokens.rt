@@ -1,5 +1,6 @@
 //! Reads the tokens of a line, each as long as it can be.
 ghost use Rattle.std.specs.Prelude.{◌≡◌, ◌<◌, ◌^◌, IfSome};
+ghost use Rattle.std.specs.Char.{is_ascii_digit};
 ghost use Rattle.std.specs.List.{list_all};
 ghost use Rattle.fp_model.specs.Texts as texts;
 ghost use Rattle.fp_model.specs.Names as names;
@@ -40,7 +41,7 @@ fn is_letter(byte: u8) -> bool
 }
 
 fn is_digit(byte: u8) -> bool
-    ensures { result ≡ tokens.is_digit byte }
+    ensures { result ≡ is_ascii_digit byte }
 {
     byte.is_ascii_digit()
 }
@@ -75,8 +76,8 @@ fn split_letters(bytes: &[u8]) -> (&[u8], &[u8])
 
 // The digits that a text begins with, and what stands behind them.
 fn split_digits(bytes: &[u8]) -> (&[u8], &[u8])
-    ensures front { result.0.now ≡ tokens.run tokens.is_digit bytes.now }
-    ensures rest { result.1.now ≡ tokens.behind tokens.is_digit bytes.now }
+    ensures front { result.0.now ≡ tokens.run is_ascii_digit bytes.now }
+    ensures rest { result.1.now ≡ tokens.behind is_ascii_digit bytes.now }
 {
     match bytes.iter().position(|byte| !is_digit(*byte)) {
         Some(place) => (&bytes[..place], &bytes[place..]),
@@ -226,7 +227,7 @@ fn hash_token(bytes: &[u8]) -> Result<(Token, &[u8]), LineFault>
 
 // Whether a text begins with a digit.
 fn begins_with_digit(bytes: &[u8]) -> bool
-    ensures { result ≡ tokens.begins tokens.is_digit bytes.now }
+    ensures { result ≡ tokens.begins is_ascii_digit bytes.now }
 {
     match bytes {
         [] => false,

@@ -1,5 +1,5 @@
 -- Segments, a field at a time.
-use Rattle.std.proofs.Common.{◌≡◌, ◌∙◌, refl, sym, ap, arith, ℕ, suc, ◌+◌, ◌<◌, List, ◌∷◌, ◌++◌, length, drop, drop-cons, get_or, append_assoc, Option, Some, None}
+use Rattle.std.proofs.Common.{◌≡◌, ◌∙◌, refl, sym, ap, ℕ, ◌+◌, List, ◌∷◌, ◌++◌, length, drop, append_assoc, Option, Some, None}
 use Rattle.fp_model.specs.declared.definitions.FieldDef.{FieldDef}
 use Rattle.fp_model.specs.Values.{◌>>=◌, empty_field, empty_segment, value_bytes}
 use Rattle.fp_model.specs.Fsas.{with_field}
@@ -30,12 +30,6 @@ pub empty_none : (front : List ℕ) (f : FieldDef) (fs : List FieldDef) → empt
     → prefixed front (empty_segment (f ∷ fs)) ≡ None
 empty_none front f fs is = ap (λ (x : Option (List ℕ)). prefixed front
     (x >>= (λ b. empty_segment fs >>= (λ o. Some (b ++ o))))) is
-
-pub rest_at : {X : Type 0} (xs : List X) (i : ℕ) (x : X) → i < length xs → x ≡ get_or xs i x
-    → drop i xs ≡ x ∷ drop (i + 1) xs
-rest_at {X} xs i x lt is =
-    let next : suc i ≡ i + 1 = omega arith in
-    drop-cons xs i x lt ∙ ap (λ (y : X). y ∷ drop (suc i) xs) (sym is) ∙ ap (λ (k : ℕ). x ∷ drop k xs) next
 
 -- the bytes of a field put in their place, where they are a value
 pub put_is_filled : (field : FieldDef) (segment new text : List ℕ) (r : Result ⊤ Stop) → length new ≡ field.length

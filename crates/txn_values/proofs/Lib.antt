@@ -1,3 +1,2 @@
 pub mod FieldLemmas
-mod TrimLemmas
 mod WordLemmas

@@ -6,6 +6,7 @@ use Rattle.std.proofs.lemmas.Bool.Decides.{nat_tests}
 use Rattle.std.proofs.Math.Bool.{false≢true}
 use Rattle.fp_model.specs.Messages.{is_separator}
 use Rattle.fp_model.specs.Values.{words, at_front, begins_word}
+use Rattle.plain_laws.proofs.Options.{none_is_past}
 
 abbrev pub is_other : ℕ → Bool
 is_other b = not (is_separator b)
@@ -103,13 +104,10 @@ place_within p xs i e = let f = found_is _ _ _ e in let lt = f.1 in grind (arith
 pub take_rest : (xs : List ℕ) (n : ℕ) → take (length xs - n) (drop n xs) ≡ drop n xs
 take_rest xs n = take_all _ _ (omega (arith, length-drop n xs))
 
-none_is : (n m : ℕ) → cond (nat_lt n m) (Some n) None ≡ None → m ≤ n
-none_is n m e = grind (arith, rules)
-
 -- none was found
 pub whole_is : (p : ℕ → Bool) (xs : List ℕ) → cond (nat_lt (position_or_len p xs) (length xs))
     (Some (position_or_len p xs)) None ≡ None → length xs ≤ position_or_len p xs
-whole_is p xs e = none_is _ _ e
+whole_is p xs e = none_is_past _ _ e
 
 -- the words of a text whose first word begins at one place and ends at another
 pub words_at : (xs rest : List ℕ) (start end : ℕ) → position_or_len is_other xs ≡ start → start < length xs

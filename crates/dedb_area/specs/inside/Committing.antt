@@ -7,6 +7,7 @@ use Rattle.fp_model.specs.declared.log.Item.{Item}
 use Rattle.fp_model.specs.Items.{begins_with_image}
 use Rattle.fp_model.specs.State.{first_area_set}
 use Rattle.fp_site.specs.Disk.{Disk, Stays}
+use Rattle.fp_lists.specs.Continued.{IsContinued}
 use Rattle.held_intervals.specs.Holding.{Changes, held_or, listed}
 use Rattle.ci_pool.specs.Held.{Held, HasSize, IsClean, pending_at, staged_at}
 use Rattle.area_redo.specs.Redo.{AreaBytes, ComesWhole, GrowByImages, names, redone, redone_at}
@@ -119,11 +120,8 @@ AreSized places pool = (set : ℕ) (place : Place) → place_at places set ≡ S
 -- staged beside those that it had.
 pub record StagesAll {S : Type 0} (told : S → Type 0) (disk : S → Disk) (faults holds : S → ℕ) (keeps : S → S → Type 0)
     (places : List Place) (old new : S) (before after : Held) : Type 0 where
-  pub tells : told old → told new
+  pub continued : IsContinued told faults holds keeps old new
   pub stays : told old → Stays (disk old) (disk new)
-  pub later : faults old ≤ faults new
-  pub same : holds new ≡ holds old
-  pub known : (first : S) → keeps first old → keeps first new
   pub pending : (s k : ℕ) → pending_at after s k ≡ pending_at before s k
   pub others : (s k : ℕ) → ¬ IsSome (place_at places s) → staged_at after s k ≡ staged_at before s k
   pub sizes : AreSized places before → AreSized places after

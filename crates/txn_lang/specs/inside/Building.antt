@@ -1,6 +1,6 @@
 -- Of the code, not of the language: what the reader of lines holds between two lines, what that says of the lines
 -- before, and what each of its steps does.
-use Rattle.std.specs.Prelude.{◌≡◌, ⊤, ℕ, ◌≤◌, List, [], ◌∷◌, ◌++◌, length, map, reverse, sum, min, Bool, true, false, Option, Some, None, IsSome, is_some, if◌then◌else◌, Ok, Err}
+use Rattle.std.specs.Prelude.{◌≡◌, ⊤, ℕ, ◌≤◌, List, [], ◌∷◌, ◌++◌, length, map, reverse, sum, min, Bool, true, false, Option, Some, None, IsSome, is_some, nat_lt, if◌then◌else◌, Ok, Err}
 use Rattle.fp_model.specs.declared.name.Name.{Name}
 use Rattle.fp_model.specs.declared.scripts.Statement.{Statement}
 use Rattle.fp_model.specs.declared.scripts.Script.{Script}
@@ -133,6 +133,15 @@ pub record IsBuilt (b : Builder) (said : List Line) : Type 0 where
   pub block : IsBlock b.block
   pub frames : AreFrames (reverse b.frames)
   pub shape : b.left_open ≡ None → HasShape b.begun b.scripts (reverse b.frames) b.block.statements said
+
+-- ---- faults of scripts
+
+-- what is wrong with a transaction, where an earlier one has its name or not
+abbrev pub fault_of_script : Bool → Script → Option ScriptFault
+fault_of_script seen s =
+    if seen then Some (fault.Twice s.name)
+    else if nat_lt 10000 (cost s.statements) then Some (fault.TooDear s.name (cost s.statements))
+    else None
 
 -- ---- steps of the reader
 

@@ -1,8 +1,8 @@
 use Rattle.std.proofs.Common.{◌≡◌, ◌∙◌, ap}
 use Rattle.std.proofs.lemmas.Result.{err_from_is_err_and}
-use Rattle.root_anchor.proofs.Exits.{same_fault}
 use Rattle.area_states.specs.States.{newest_serial}
 use Rattle.area_reading.proofs.lists.with_list.Goals as goal
+use Rattle.plain_laws.proofs.Results.{same_fault}
 
 pub returns-in_err-seqs-clause-damaged : goal.returns-in_err-seqs-clause-damaged
 returns-in_err-seqs-clause-damaged g c = λ told ends kept has at ci e.

@@ -1,12 +1,14 @@
 use Rattle.std.proofs.Common.{◌≡◌, ◌∙◌, ◌∷◌, [], ◌+◌, ◌++◌, length, take, sym, subst, rules}
 use Rattle.std.specs.List.{AllZip}
 use Rattle.std.proofs.lemmas.Result.{err_from_is_err_and}
-use Rattle.ci_overflow.proofs.Going.{goes_on_joined}
-use Rattle.root_anchor.proofs.Exits.{same_fault}
 use Rattle.area_states.specs.States.{IsReadAs}
 use Rattle.area_states.proofs.Changing.{roots_stay}
-use Rattle.area_reading.proofs.Readable.{all_taken, ends_stay, none_of, one_taken, others_left, this_one, unreadable_stays, zip_more}
+use Rattle.area_reading.proofs.Readable.{all_taken, ends_stay, one_taken, others_left, this_one, unreadable_stays}
 use Rattle.area_reading.proofs.lists.with_lists.Goals as goal
+use Rattle.ci_space.proofs.GoingLemmas.{goes_on_joined}
+use Rattle.plain_laws.proofs.Lists.{nil_by_length}
+use Rattle.plain_laws.proofs.Results.{same_fault}
+use Rattle.plain_laws.proofs.Alls.{each_push}
 
 pub with_list-requires-clause-size : goal.with_list-requires-clause-size
 with_list-requires-clause-size g c = c.loop-root.invariant.goes_on.same_size ∙ c.requires.size
@@ -34,7 +36,7 @@ loop-root-preserved g c =
           subst (λ ys. AllZip (IsReadAs place old) (take (n + 1) c.args.kept) ys) (sym added)
           (subst (λ xs. AllZip (IsReadAs place old) xs (c.loop-root.roots ++ c.in_ok-one.one ∷ []))
           (sym (one_taken c.args.kept rest n c.in-Some.root left))
-          (zip_more (IsReadAs place old) (take n c.args.kept) c.loop-root.roots c.in-Some.root c.in_ok-one.one
+          (each_push (IsReadAs place old) (take n c.args.kept) c.loop-root.roots c.in-Some.root c.in_ok-one.one
           (it.read told ends) one));
     }
 
@@ -59,6 +61,6 @@ returns-clause-read g c = λ told ends.
     let place = c.args.place.now in
     let it = c.loop-root.invariant in
     let len : length c.loop-root.root-iterator.rest.items ≡ 0 = search rules in
-    let none = none_of c.loop-root.root-iterator.rest.items len in
+    let none = nil_by_length c.loop-root.root-iterator.rest.items len in
     subst (λ xs. AllZip (IsReadAs place (g.I.Intervals.intervals c.args.i.now)) xs c.loop-root.roots)
     (all_taken c.args.kept c.loop-root.number (it.left ∙ none)) (it.read told ends)

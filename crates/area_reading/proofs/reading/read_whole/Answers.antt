@@ -2,13 +2,13 @@ use Rattle.std.proofs.Common.{◌≡◌, ◌∙◌, sym, subst}
 use Rattle.std.specs.List.{AllZip}
 use Rattle.std.proofs.lemmas.Result.{err_from_is_err_and}
 use Rattle.anchor_elements.specs.Elements.{AreTypes}
-use Rattle.root_anchor.proofs.Exits.{same_fault}
 use Rattle.root_anchor.specs.Damage.{ChainFails}
 use Rattle.area_states.specs.States.{HasAnchor, IsReadAs}
 use Rattle.area_states.proofs.Changing.{roots_stay}
 use Rattle.area_reading.specs.Damage.{in_chain, in_part}
-use Rattle.area_reading.proofs.Readable.{by_ok, ends_stay, unreadable_stays}
+use Rattle.area_reading.proofs.Readable.{ends_stay, unreadable_stays}
 use Rattle.area_reading.proofs.reading.read_whole.Goals as goal
+use Rattle.plain_laws.proofs.Results.{if_ok_with, same_fault}
 
 pub load-requires-clause-types : goal.load-requires-clause-types
 load-requires-clause-types g c =
@@ -41,7 +41,7 @@ returns-clause-roots g c = λ told.
     let same2 = c.load.ensures.same told1 ∙ same1 in
     let ends = ends_stay old (g.I.Intervals.intervals c.load.new.i) c.in_ok-ends.ends same2
     (c.in_ok-ends.ensures.ends told) in
-    by_ok c.with_lists.result
+    if_ok_with c.with_lists.result
     (AllZip (IsReadAs place (g.I.Intervals.intervals c.load.new.i)) c.in_ok-kept.kept)
     (HasAnchor place old c.args.anchor) (c.with_lists.ensures.read told2 ends)
     (λ roots lists. record {

@@ -1,8 +1,9 @@
 use Rattle.std.proofs.Common.{◌≡◌, ◌∙◌, ◌∷◌, ◌+◌, drop, sym, ap, arith}
 use Rattle.std.specs.Prelude.{if◌then◌else◌}
-use Rattle.area_states.proofs.Loops.{none_left, rest_at}
 use Rattle.area_reading.proofs.Lengths.{first_length, sequential_first}
 use Rattle.area_reading.proofs.types.sequential_length.Goals as goal
+use Rattle.plain_laws.proofs.Lists.{drop_whole}
+use Rattle.plain_laws.proofs.Places.{rest_at}
 
 pub returns-then-def : goal.returns-then-def
 returns-then-def c = λ has.
@@ -28,5 +29,5 @@ loop-def-preserved c =
 pub returns : goal.returns
 returns c = λ has.
     let types = c.args.types.now in
-    let none = none_left types c.loop-def.def-index (omega (arith, c.loop-def-test.false)) in
+    let none = drop_whole types c.loop-def.def-index (omega (arith, c.loop-def-test.false)) in
     sym (ap first_length none) ∙ c.loop-def.invariant ∙ sym (sequential_first types has)

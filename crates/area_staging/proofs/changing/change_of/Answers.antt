@@ -1,9 +1,10 @@
 use Rattle.std.proofs.Common.{◌≡◌, ◌∙◌, ◌<◌, length, ap, arith}
 use Rattle.std.proofs.lemmas.Bool.Decides.{nat_tests}
 use Rattle.ci_pool.specs.Held.{held_at}
-use Rattle.area_staging.proofs.Data.{sized_newest, there}
+use Rattle.area_staging.proofs.Data.{sized_newest}
 use Rattle.area_staging.proofs.Steps.{fit_change}
 use Rattle.area_staging.proofs.changing.change_of.Goals as goal
+use Rattle.plain_laws.proofs.Options.{some_value}
 
 pub returns-then-len-whole-clause-item : goal.returns-then-len-whole-clause-item
 returns-then-len-whole-clause-item g c = λ told bytes shown.
@@ -26,23 +27,23 @@ returns-clause-fits g c = λ end.
 pub returns-in_err-image_of-2-clause-hand : goal.returns-in_err-image_of-2-clause-hand
 returns-in_err-image_of-2-clause-hand g c = λ all.
     let below : c.args.ci < c.args.area.count = grind (arith, nat_tests, c.if-ci-area.false) in
-    let w = there (held_at c.args.pool.now c.args.area.set c.args.ci) (all below) in
+    let w = some_value (held_at c.args.pool.now c.args.area.set c.args.ci) (all below) in
     c.old_bytes.ensures.hand w.0 w.1
 
 pub returns-then-len-whole-clause-hand : goal.returns-then-len-whole-clause-hand
 returns-then-len-whole-clause-hand g c = λ all.
     let below : c.args.ci < c.args.area.count = grind (arith, nat_tests, c.if-ci-area.false) in
-    let w = there (held_at c.args.pool.now c.args.area.set c.args.ci) (all below) in
+    let w = some_value (held_at c.args.pool.now c.args.area.set c.args.ci) (all below) in
     c.old_bytes.ensures.hand w.0 w.1
 
 pub returns-in_err-item_of-clause-hand : goal.returns-in_err-item_of-clause-hand
 returns-in_err-item_of-clause-hand g c = λ all.
     let below : c.args.ci < c.args.area.count = grind (arith, nat_tests, c.if-ci-area.false) in
-    let w = there (held_at c.args.pool.now c.args.area.set c.args.ci) (all below) in
+    let w = some_value (held_at c.args.pool.now c.args.area.set c.args.ci) (all below) in
     c.old_bytes.ensures.hand w.0 w.1
 
 pub returns-clause-hand : goal.returns-clause-hand
 returns-clause-hand g c = λ all.
     let below : c.args.ci < c.args.area.count = grind (arith, nat_tests, c.if-ci-area.false) in
-    let w = there (held_at c.args.pool.now c.args.area.set c.args.ci) (all below) in
+    let w = some_value (held_at c.args.pool.now c.args.area.set c.args.ci) (all below) in
     c.old_bytes.ensures.hand w.0 w.1

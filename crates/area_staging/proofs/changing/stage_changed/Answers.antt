@@ -9,8 +9,9 @@ use Rattle.area_staging.proofs.Data.{sized_newest}
 use Rattle.area_staging.proofs.Stages.{stages_then, still_shows}
 use Rattle.area_staging.proofs.Least.{least_more}
 use Rattle.area_staging.proofs.AtHand.{hand_then, still_at_hand}
-use Rattle.area_staging.proofs.Steps.{at_last, before_more, fit_more, flags_more, item_as, no_entries, order_more, some_bytes, taken, taken_staged}
+use Rattle.area_staging.proofs.Steps.{at_last, before_more, fit_more, flags_more, item_as, order_more, some_bytes, taken, taken_staged}
 use Rattle.area_staging.proofs.changing.stage_changed.Goals as goal
+use Rattle.plain_laws.proofs.Alls.{no_entries}
 
 pub stage_one-requires-clause-size : goal.stage_one-requires-clause-size
 stage_one-requires-clause-size g c =
@@ -97,7 +98,7 @@ loop-ci-preserved g c =
           c.loop-ci.items c.add.new.items c.in_ok-item.item (inv.made t b shown)
           (item_as area ci (b ci) bytes c.in_ok-item.item (is_imaged c.loop-ci.imaged.items area.set ci)
           (is_imaged c.args.imaged.now.items area.set ci) flag
-          (c.in_ok-item.ensures.item (inv.stages.tells t) b
+          (c.in_ok-item.ensures.item (inv.stages.continued.still_told t) b
           (shows_on b c.args.site.now c.loop-ci.site c.args.pool.now c.loop-ci.pool inv.stages t shown)))
           (same_long b t shown) e;
       least = λ t b shown.
@@ -105,7 +106,7 @@ loop-ci-preserved g c =
           c.in_ok-item.item
           (item_as area ci (b ci) bytes c.in_ok-item.item (is_imaged c.loop-ci.imaged.items area.set ci)
           (is_imaged c.args.imaged.now.items area.set ci) flag
-          (c.in_ok-item.ensures.item (inv.stages.tells t) b
+          (c.in_ok-item.ensures.item (inv.stages.continued.still_told t) b
           (shows_on b c.args.site.now c.loop-ci.site c.args.pool.now c.loop-ci.pool inv.stages t shown)))
           e (inv.least t b shown);
       staged = λ t b shown.
@@ -114,7 +115,7 @@ loop-ci-preserved g c =
           (inv.made t b shown)
           (item_as area ci (b ci) bytes c.in_ok-item.item (is_imaged c.loop-ci.imaged.items area.set ci)
           (is_imaged c.args.imaged.now.items area.set ci) flag
-          (c.in_ok-item.ensures.item (inv.stages.tells t) b
+          (c.in_ok-item.ensures.item (inv.stages.continued.still_told t) b
           (shows_on b c.args.site.now c.loop-ci.site c.args.pool.now c.loop-ci.pool inv.stages t shown)))
           (same_long b t shown) e (inv.staged t b shown) c.in_ok-item.ensures.staged;
     }

@@ -1,11 +1,11 @@
 use Rattle.std.proofs.Common.{◌≡◌, ◌∙◌, sym, subst, true, arith}
 use Rattle.std.proofs.lemmas.Result.{err_from_is_err_and}
 use Rattle.fp_model.specs.Commit.{is_too_full}
-use Rattle.root_anchor.proofs.Exits.{same_fault}
 use Rattle.area_states.specs.Changes.{HasRoom, ends_of}
 use Rattle.area_states.specs.States.{HasState}
 use Rattle.area_states.proofs.Changing.{none_inserted, state_stays}
 use Rattle.area_states.proofs.appending.append_all.Goals as goal
+use Rattle.plain_laws.proofs.Results.{same_fault}
 
 pub returns-then-n-eq0-clause-numbered : goal.returns-then-n-eq0-clause-numbered
 returns-then-n-eq0-clause-numbered g c = λ told state has ordered.

@@ -1,14 +1,15 @@
 use Rattle.std.proofs.Common.{◌∙◌, sym, ap, subst, refl, arith}
 use Rattle.std.specs.List.{AllByRecursion}
 use Rattle.std.proofs.lemmas.Result.{err_from_is_err_and}
-use Rattle.ci_overflow.proofs.Going.{goes_on_joined}
-use Rattle.root_anchor.proofs.Exits.{same_fault}
 use Rattle.area_states.specs.Changes.{HasRoom, IsInsertable, count_of, with_insert, with_inserts}
 use Rattle.area_states.specs.States.{HasState}
 use Rattle.area_states.proofs.Changing.{ordered_insert}
-use Rattle.area_states.proofs.Loops.{rest_at, none_left}
 use Rattle.area_states.proofs.Rooms.{room_first, room_rest}
 use Rattle.area_states.proofs.appending.number_all.Goals as goal
+use Rattle.ci_space.proofs.GoingLemmas.{goes_on_joined}
+use Rattle.plain_laws.proofs.Lists.{drop_whole}
+use Rattle.plain_laws.proofs.Places.{rest_at}
+use Rattle.plain_laws.proofs.Results.{same_fault}
 
 pub loop-insert-init : goal.loop-insert-init
 loop-insert-init g c = record {
@@ -70,6 +71,6 @@ pub returns-clause-numbered : goal.returns-clause-numbered
 returns-clause-numbered g c = λ told state has ordered.
     let place = c.args.place.now in
     let was = c.loop-insert.invariant.stands told state has ordered in
-    let none = none_left c.args.inserts.now c.loop-insert.insert-index (omega arith) in
+    let none = drop_whole c.args.inserts.now c.loop-insert.insert-index (omega arith) in
     subst (λ s. HasState place (g.I.Intervals.intervals c.loop-insert.i) s)
     (sym (was.3 ∙ ap (λ l. with_inserts place l was.0) none)) was.1

@@ -1,7 +1,6 @@
 use Rattle.std.proofs.Common.{◌≡◌, ◌∙◌, Err, ap, subst}
 use Rattle.std.proofs.lemmas.Result.{err_from_is_err_and}
 use Rattle.anchor_elements.specs.declared.fault.AnchorFault.TheVariants.{Damaged as AnchorDamaged}
-use Rattle.root_anchor.proofs.Exits.{same_fault}
 use Rattle.seq_dependents.specs.declared.fault.SeqFault.TheVariants.{Damaged}
 use Rattle.seq_dependents.specs.Puts.{IsTooMany}
 use Rattle.area_states.specs.Changes.{ends_of}
@@ -12,6 +11,7 @@ use Rattle.area_states.proofs.Numbering.{chain_stands, numbered_here}
 use Rattle.area_states.proofs.Rooms.{not_too_many}
 use Rattle.area_states.proofs.StateLemmas.{not_at_fault}
 use Rattle.area_states.proofs.appending.number_here.Goals as goal
+use Rattle.plain_laws.proofs.Results.{same_fault}
 
 pub returns-in_err-serial-clause-sound : goal.returns-in_err-serial-clause-sound
 returns-in_err-serial-clause-sound g c = λ told state has ci e.

@@ -10,8 +10,9 @@ use Rattle.area_states.specs.inside.Keys.{HasSeqsAt, IsKeptAs, IsOwnOf}
 use Rattle.std.proofs.lemmas.Bool.{cases_lt}
 use Rattle.std.proofs.lemmas.Option.{slice_get_within}
 use Rattle.area_states.proofs.Again.{got_root, has_front, has_last, one_longer}
-use Rattle.area_states.proofs.Storables.{all_mapped, all_push}
+use Rattle.area_states.proofs.Storables.{all_mapped}
 use Rattle.area_states.proofs.roots.kept_roots.Goals as goal
+use Rattle.plain_laws.proofs.Alls.{list_all_push}
 
 pub loop-root-preserved : goal.loop-root-preserved
 loop-root-preserved c =
@@ -37,7 +38,7 @@ loop-root-preserved c =
           let got : is_storable types one ≡ true =
           subst (λ ts. is_storable ts one ≡ true) c.as_slice.ensures (c.in_ok-one.ensures.form all2 one2) in
           subst (λ ks. are_storable types ks ≡ true) (sym added)
-          (all_push (is_storable types) c.loop-root.kept one (inv.form all stored) got);
+          (list_all_push (is_storable types) c.loop-root.kept one (inv.form all stored) got);
       count = ap length added ∙ one_longer c.loop-root.kept one ∙ ap (λ k. k + 1) inv.count;
       again = λ up number r other below is at own. subst (λ ks. HasSeqsAt ks number other.seqs) (sym added)
           (elim (cases_lt number n) [

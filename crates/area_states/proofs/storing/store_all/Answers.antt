@@ -1,13 +1,14 @@
 use Rattle.std.proofs.Common.{◌∙◌, sym, ap, subst, refl, arith}
 use Rattle.std.specs.List.{AllByRecursion}
 use Rattle.std.proofs.lemmas.Result.{err_from_is_err_and}
-use Rattle.ci_overflow.proofs.Going.{goes_on_joined}
-use Rattle.root_anchor.proofs.Exits.{same_fault}
 use Rattle.area_states.specs.Changes.{AllKeepLists, ChangesOne, IsStorable, KeepsLists, OneChanges, with_change, with_changes}
 use Rattle.area_states.specs.States.{HasState}
 use Rattle.area_states.proofs.Alone.{none_changes, only_one}
-use Rattle.area_states.proofs.Loops.{rest_at, none_left}
 use Rattle.area_states.proofs.storing.store_all.Goals as goal
+use Rattle.ci_space.proofs.GoingLemmas.{goes_on_joined}
+use Rattle.plain_laws.proofs.Lists.{drop_whole}
+use Rattle.plain_laws.proofs.Places.{rest_at}
+use Rattle.plain_laws.proofs.Results.{same_fault}
 
 pub loop-change-init : goal.loop-change-init
 loop-change-init g c = record {
@@ -69,6 +70,6 @@ pub returns-clause-stored : goal.returns-clause-stored
 returns-clause-stored g c = λ told state has own.
     let place = c.args.place.now in
     let was = c.loop-change.invariant.stands told state has own in
-    let none = none_left c.args.changes.now c.loop-change.change-index (omega arith) in
+    let none = drop_whole c.args.changes.now c.loop-change.change-index (omega arith) in
     subst (λ s. HasState place (g.I.Intervals.intervals c.loop-change.i) s)
     (sym (was.3 ∙ ap (λ l. with_changes place l was.0) none)) was.1

@@ -1,7 +1,6 @@
 use Rattle.std.proofs.Common.{◌≡◌, ◌∙◌, ap, map, sym, subst, true}
 use Rattle.std.proofs.lemmas.Result.{err_from_is_err_and}
 use Rattle.anchor_elements.specs.Elements.{AreTypes}
-use Rattle.root_anchor.proofs.Exits.{same_fault}
 use Rattle.std.specs.List.{AllZip}
 use Rattle.fp_model.specs.Order.{root_key}
 use Rattle.fp_model.specs.State.{ascend}
@@ -15,6 +14,7 @@ use Rattle.area_states.proofs.KeyLemmas.{keys_same}
 use Rattle.area_states.proofs.StateLemmas.{whole_ends}
 use Rattle.area_states.proofs.Changing.{begin_stays, roots_stay, state_stays, stored_ok}
 use Rattle.area_states.proofs.storing.store_here.Goals as goal
+use Rattle.plain_laws.proofs.Results.{same_fault}
 
 pub load-requires-clause-types : goal.load-requires-clause-types
 load-requires-clause-types g c =

@@ -2,8 +2,9 @@ use Rattle.std.proofs.Common.{◌<◌, ◌+◌, ◌++◌, ap, arith, rules, get_
 use Rattle.std.specs.List.{flat_map}
 use Rattle.std.specs.Option.{option_copied}
 use Rattle.fp_model.specs.CheckpointText.{msdb_text}
-use Rattle.checkpoint_format.proofs.Lending.{database, goes_on, has_database, no_more, segment_next}
+use Rattle.checkpoint_format.proofs.Lending.{database, has_database, no_more, segment_next}
 use Rattle.checkpoint_format.proofs.writing.put_msdb.Goals as goal
+use Rattle.plain_laws.proofs.Lists.{joined_on}
 
 pub overflow_cast-count : goal.overflow_cast-count
 overflow_cast-count c =
@@ -24,7 +25,7 @@ unreachable-requires c =
 
 pub loop-place-preserved : goal.loop-place-preserved
 loop-place-preserved c its is =
-    goes_on c.loop-place.into c.append.new.self (c.args.into.now ++ msdb_text c.args.def.now its)
+    joined_on c.loop-place.into c.append.new.self (c.args.into.now ++ msdb_text c.args.def.now its)
     c.in-Some.segment.now
     (flat_map (λ s. s) (drop (c.loop-place.place + 1) its.segments))
     (flat_map (λ s. s) (drop c.loop-place.place its.segments))

@@ -5,8 +5,9 @@ use Rattle.std.proofs.lemmas.Option.{get_or_from_slice_get}
 use Rattle.std.proofs.lemmas.Slice.Zip.{AllZip-long}
 use Rattle.fp_model.specs.CheckpointText.{IsMsdbOf, msdb_text}
 use Rattle.fp_model.specs.declared.database.Msdb.{Msdb}
-use Rattle.checkpoint_format.proofs.Lending.{database, database_next, goes_on, has_database, texts}
+use Rattle.checkpoint_format.proofs.Lending.{database, database_next, has_database, texts}
 use Rattle.checkpoint_format.proofs.writing.put_msdbs.Goals as goal
+use Rattle.plain_laws.proofs.Lists.{joined_on}
 
 pub loop-number-init : goal.loop-number-init
 loop-number-init c =
@@ -40,7 +41,7 @@ loop-number-preserved c =
     let def = c.index-defs-number.result in
     let within : number < length msdbs =
     omega (arith, AllZip-long IsMsdbOf defs msdbs c.requires.of.each, c.loop-number-test.true) in
-    goes_on c.loop-number.into c.put_msdb.new.into (c.args.into.now ++ (length msdbs ∷ texts defs msdbs))
+    joined_on c.loop-number.into c.put_msdb.new.into (c.args.into.now ++ (length msdbs ∷ texts defs msdbs))
     (msdb_text def (database msdbs number))
     (texts (drop (number + 1) defs) (drop (number + 1) msdbs))
     (texts (drop number defs) (drop number msdbs))

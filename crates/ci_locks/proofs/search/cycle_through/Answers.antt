@@ -4,18 +4,13 @@ use Rattle.std.proofs.lemmas.List.{length-set, length-take}
 use Rattle.ci_locks.specs.Graph.{is_in}
 use Rattle.ci_locks.specs.inside.Graph.{Along, leads, set_at}
 use Rattle.ci_locks.specs.Sets.{has}
-use Rattle.ci_locks.proofs.Members.{is_member, member_is, take_last, take_put}
+use Rattle.ci_locks.proofs.Members.{is_member, member_is, take_put}
 use Rattle.ci_locks.proofs.Walks.{AreNoLater, Searched, back, begins, closes, end_within, few, fewer, none, none_before, onward, onward_before, still_before}
 use Rattle.ci_locks.proofs.search.cycle_through.Goals as goal
 use Rattle.ci_locks.proofs.search.cycle_through.Goals.{After-with-met-in-Some}
-
-both : (a b : Bool) → (a && b) ≡ true → (a ≡ true) × (b ≡ true)
-both true b e = (refl, e)
-both false b e = absurd (cc)
-
-not_true : (b : Bool) → not b ≡ true → b ≡ false
-not_true true e = absurd (cc)
-not_true false e = refl
+use Rattle.std.proofs.lemmas.Bool.{and_parts}
+use Rattle.plain_laws.proofs.Truths.{not_true}
+use Rattle.plain_laws.proofs.Lists.{take-last}
 
 no_edge : (b : Bool) → ¬ (b ≡ true) → b ≡ false
 no_edge true none = absurd (none refl)
@@ -31,18 +26,11 @@ left_out true true e is = refl
 left_out true false e is = absurd (cc)
 left_out false b e is = absurd (cc)
 
--- the way so far, its last region apart
-split : (path : List ℕ) (count : ℕ) → 0 < count → count ≤ length path
-    → take count path ≡ take (count - 1) path ++ get_or path (count - 1) 0 ∷ []
-split path count some most =
-    let e : count ≡ (count - 1) + 1 = omega (arith, some) in
-    ap (λ k. take k path) e ∙ take_last path (count - 1) (omega (arith, some, most))
-
 apart : (next : ℕ → List ℕ) (asker regions : ℕ) (met : ℕ → Bool) (path : List ℕ) (count : ℕ) → 0 < count
     → count ≤ length path → Searched next asker regions met (take count path)
     → Searched next asker regions met (take (count - 1) path ++ get_or path (count - 1) 0 ∷ [])
 apart next asker regions met path count some most s = let P : List ℕ → Type 0 = Searched next asker regions met in
-    subst P (split path count some most) s
+    subst P (take-last path count some most) s
 
 -- on to a region that is not met
 further : (next : ℕ → List ℕ) (asker regions : ℕ) (met met2 : ℕ → Bool) (path : List ℕ) (count r : ℕ) → 0 < count
@@ -52,7 +40,7 @@ further : (next : ℕ → List ℕ) (asker regions : ℕ) (met met2 : ℕ → Bo
     → Searched next asker regions met2 (take count path ++ r ∷ [])
 further next asker regions met met2 path count r some most s edge fresh range is =
     let P : List ℕ → Type 0 = λ l. Searched next asker regions met2 (l ++ r ∷ []) in
-    subst P (sym (split path count some most))
+    subst P (sym (take-last path count some most))
     (onward next asker regions met met2 (take (count - 1) path) (get_or path (count - 1) 0) r
     (apart next asker regions met path count some most s) edge fresh range is)
 
@@ -106,7 +94,7 @@ returns-then-has-clause-found c =
     c.loop-count-test.true most c.loop-count.invariant.searched) edge in
     let P : List ℕ → Type 0 = λ list. (cycle : List ℕ) × (list ≡ c.args.asker ∷ cycle)
     × Along next c.args.asker cycle c.args.asker × IsDistinct ◌==◌ list in
-    subst P (sym (c.in_ok-from_slice.ensures ∙ split c.loop-count.path c.loop-count.count c.loop-count-test.true most))
+    subst P (sym (c.in_ok-from_slice.ensures ∙ take-last c.loop-count.path c.loop-count.count c.loop-count-test.true most))
     found
 
 pub returns-then-has-clause-first : goal.returns-then-has-clause-first
@@ -122,7 +110,7 @@ step c =
     let end = get_or c.loop-count.path (c.loop-count.count - 1) 0 in
     let word = set_at c.args.regions.now c.args.asker c.args.ahead.0 end in
     let r = c.in-Some.region in
-    let parts = both (has c.set_at-on.result.0 r) (not (has c.loop-count.met.0 r))
+    let parts = and_parts (has c.set_at-on.result.0 r) (not (has c.loop-count.met.0 r))
     (sym (c.less.ensures r) ∙ c.in-Some.ensures.some) in
     let on : has word r ≡ true = ap (λ w. has w r) (sym c.set_at-on.ensures) ∙ parts.0 in
     let range = c.requires.range end r on in
@@ -144,7 +132,7 @@ before c =
     let most : c.loop-count.count ≤ length c.loop-count.path =
     omega (arith, c.loop-count.invariant.long, c.loop-count.invariant.room, c.requires.most) in
     let through = take (c.loop-count.count - 1) c.loop-count.path in
-    let way = split c.loop-count.path c.loop-count.count c.loop-count-test.true most in
+    let way = take-last c.loop-count.path c.loop-count.count c.loop-count-test.true most in
     let P : List ℕ → Type 0 = λ l. AreNoLater next c.args.asker (l ++ c.in-Some.region ∷ []) in
     let Q : List ℕ → Type 0 = AreNoLater next c.args.asker in
     let on : (b : ℕ) → has c.set_at-on.result.0 b ≡ has word b = λ b. ap (λ w. has w b) c.set_at-on.ensures in
@@ -172,7 +160,7 @@ pub loop-count-smaller-in-Some : goal.loop-count-smaller-in-Some
 loop-count-smaller-in-Some c =
     let r = c.in-Some.region in
     let end = get_or c.loop-count.path (c.loop-count.count - 1) 0 in
-    let parts = both (has c.set_at-on.result.0 r) (not (has c.loop-count.met.0 r))
+    let parts = and_parts (has c.set_at-on.result.0 r) (not (has c.loop-count.met.0 r))
     (sym (c.less.ensures r) ∙ c.in-Some.ensures.some) in
     let range = c.requires.range end r (ap (λ w. has w r) (sym c.set_at-on.ensures) ∙ parts.0) in
     let less = fewer (has c.loop-count.met.0) (has c.with-met-in-Some.result.0) r (length c.args.regions.now)
@@ -222,7 +210,7 @@ loop-count-preserved c =
       first =
           let P : List ℕ → Type 0 = AreNoLater next c.args.asker in
           still_before next c.args.asker (take (c.loop-count.count - 1) c.loop-count.path) end
-          (subst P (split c.loop-count.path c.loop-count.count c.loop-count-test.true most)
+          (subst P (take-last c.loop-count.path c.loop-count.count c.loop-count-test.true most)
           c.loop-count.invariant.first);
       long = omega (arith, c.loop-count.invariant.long);
       room = c.loop-count.invariant.room;

@@ -4,9 +4,9 @@ use Rattle.fp_model.specs.declared.calls.Mode.{Mode}
 use Rattle.fp_model.specs.declared.calls.Resource.{Resource}
 use Rattle.fp_model.specs.Waiting.{same_resource}
 use Rattle.ci_locks.specs.Holdings.{held_by}
-use Rattle.ci_locks.proofs.Shown.{is_number}
 use Rattle.ci_locks.proofs.Sounds.{contains_less}
 use Rattle.ci_locks.proofs.state.leave_all.Goals as goal
+use Rattle.plain_laws.proofs.Numbers.{is_number}
 
 still : (here same : Bool) (x y : Option Mode) → x ≡ (if same && here then None else y)
     → (if here then None else x) ≡ (if here then None else y)

@@ -5,11 +5,12 @@ use Rattle.ci_overflow.specs.Places.{first_base}
 use Rattle.ci_overflow.specs.Lists.{bytes_at, link_of}
 use Rattle.ci_overflow.specs.Faults.{IsAtFault}
 use Rattle.ci_overflow.specs.Moves.{IsInList}
-use Rattle.ci_overflow.proofs.Going.{same_fault, named_fault}
+use Rattle.ci_overflow.proofs.Going.{named_fault}
 use Rattle.ci_overflow.proofs.Joins.{link_is_number}
 use Rattle.ci_overflow.proofs.Tries.{option_some, option_none}
 use Rattle.ci_overflow.proofs.Befores.{leads-to, is-before, unlisted-fault}
 use Rattle.ci_overflow.proofs.before.find_before.Goals as goal
+use Rattle.plain_laws.proofs.Results.{same_fault}
 
 pub returns-in_err-base-clause-damaged : goal.returns-in_err-base-clause-damaged
 returns-in_err-base-clause-damaged g c = λ t b u w l n e.

@@ -1,7 +1,7 @@
 use Rattle.std.proofs.lemmas.Result.{err_from_is_err_and}
-use Rattle.ci_overflow.proofs.Going.{same_fault}
 use Rattle.ci_overflow.proofs.FaultLemmas.{first-fault}
 use Rattle.ci_overflow.proofs.before.first_of.Goals as goal
+use Rattle.plain_laws.proofs.Results.{same_fault}
 
 pub returns-in_err-interval-clause-damaged : goal.returns-in_err-interval-clause-damaged
 returns-in_err-interval-clause-damaged g c = λ t b u n e.

@@ -3,13 +3,15 @@ use Rattle.std.proofs.lemmas.Result.{err_from_is_err_and}
 use Rattle.ci_space.proofs.Going.{goes-itself}
 use Rattle.ci_overflow.specs.Lists.{bytes_at, link_of, owner_of, IsOwned}
 use Rattle.ci_overflow.specs.Faults.{IsAtFault}
-use Rattle.ci_overflow.proofs.Going.{goes_on_joined, same_fault, named_fault}
+use Rattle.ci_overflow.proofs.Going.{named_fault}
 use Rattle.ci_overflow.proofs.Joins.{link_is_number}
 use Rattle.ci_overflow.proofs.Circles.{walk-on, walk-round}
 use Rattle.ci_overflow.proofs.FaultLemmas.{shared-fault, early-fault, built-begins, built-on}
 use Rattle.ci_overflow.proofs.Befores.{begins-at, leads-to, ends-without}
 use Rattle.ci_overflow.proofs.before.walk.Goals as goal
 use Rattle.ci_overflow.proofs.before.walk.Goals.{then-turns-eq0-via-then-turns-eq0, then-turns-eq0-via-else-turns-eq0+then-next-first_independent}
+use Rattle.ci_space.proofs.GoingLemmas.{goes_on_joined}
+use Rattle.plain_laws.proofs.Results.{same_fault}
 
 pub loop-next-init : goal.loop-next-init
 loop-next-init g c =

@@ -1,12 +1,13 @@
 use Rattle.std.proofs.Common.{◌≡◌, ◌+◌, ◌<◌, length, sym, ap, ◌∙◌, arith}
 use Rattle.std.proofs.lemmas.Result.{err_from_is_err_and}
 use Rattle.ci_overflow.specs.Lists.{bytes_at, owner_of}
-use Rattle.ci_overflow.proofs.Going.{goes_on_joined, same_fault}
 use Rattle.ci_overflow.proofs.Tries.{keeps-owner}
-use Rattle.ci_overflow.proofs.Joins.{on_ok-map, base-before}
+use Rattle.ci_overflow.proofs.Joins.{base-before}
 use Rattle.ci_overflow.proofs.Moving.{moves}
 use Rattle.ci_overflow.proofs.FaultLemmas.{unit-fault, control-fault}
 use Rattle.ci_overflow.proofs.freed.move_to_free.Goals as goal
+use Rattle.ci_space.proofs.GoingLemmas.{goes_on_joined}
+use Rattle.plain_laws.proofs.Results.{on_ok_map, same_fault}
 
 pub returns-in_err-uow-clause-damaged : goal.returns-in_err-uow-clause-damaged
 returns-in_err-uow-clause-damaged g c = λ t k m n e.
@@ -50,7 +51,7 @@ returns-clause-moved g c = λ t k.
     let t1 = c.find_before.ensures.goes_on.tells t in
     let t2 = c.read.ensures.goes_on.tells t1 in
     let t3 = c.put_link.ensures.goes_on.tells t2 in
-    on_ok-map _ _ _ (λ q. moves _ _ _ _ _ _ _ _ _ _ _ c.in_ok-before.before c.in_ok-uow.ensures.bound
+    on_ok_map _ _ _ (λ q. moves _ _ _ _ _ _ _ _ _ _ _ c.in_ok-before.before c.in_ok-uow.ensures.bound
     c.in_ok-uow.ensures.has_base c.in_ok-uow.ensures.from c.in_ok-uow.ensures.unit
     (c.in_ok-before.ensures.before t)
     (c.in_ok-before.ensures.same t) (c.in_ok-control.ensures.bytes t1) (c.in_ok-control.ensures.same t1)

@@ -1,9 +1,9 @@
 use Rattle.std.proofs.Common.{◌≡◌, ◌+◌, inr, sym, ap}
 use Rattle.ci_space.specs.Interval.{IsFull}
-use Rattle.ci_overflow.proofs.Going.{goes_on_joined}
 use Rattle.ci_overflow.proofs.Joins.{joins}
 use Rattle.ci_overflow.proofs.JoinFaults.{full-behind}
 use Rattle.ci_overflow.proofs.joined.join.Goals as goal
+use Rattle.ci_space.proofs.GoingLemmas.{goes_on_joined}
 
 pub returns-in_ok-write-in-Some-2-clause-joined : goal.returns-in_ok-write-in-Some-2-clause-joined
 returns-in_ok-write-in-Some-2-clause-joined g c = λ t.

@@ -3,11 +3,13 @@ use Rattle.std.proofs.lemmas.Result.{err_from_is_err_and}
 use Rattle.ci_space.specs.Interval.{IsEmpty}
 use Rattle.ci_overflow.specs.Places.{first_independent}
 use Rattle.ci_overflow.specs.Faults.{FitsEmpty, IsAtFault}
-use Rattle.ci_overflow.proofs.Going.{goes_on_joined, same_fault, named_fault}
+use Rattle.ci_overflow.proofs.Going.{named_fault}
 use Rattle.ci_overflow.proofs.FaultLemmas.{shared-fault, early-fault}
 use Rattle.ci_overflow.proofs.JoinFaults.{empty-fits, base-moved, control-link, control-some, free-fault}
 use Rattle.ci_overflow.proofs.Joins.{joins-free, base-before}
 use Rattle.ci_overflow.proofs.joined.join_free.Goals as goal
+use Rattle.ci_space.proofs.GoingLemmas.{goes_on_joined}
+use Rattle.plain_laws.proofs.Results.{same_fault}
 
 pub join-requires-clause-behind : goal.join-requires-clause-behind
 join-requires-clause-behind g c = omega (

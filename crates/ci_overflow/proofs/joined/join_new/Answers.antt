@@ -4,11 +4,13 @@ use Rattle.ci_space.specs.Interval.{IsEmpty}
 use Rattle.ci_overflow.specs.Places.{first_independent}
 use Rattle.ci_overflow.specs.Lists.{bytes_at}
 use Rattle.ci_overflow.specs.Faults.{FitsEmpty, IsAtFault}
-use Rattle.ci_overflow.proofs.Going.{goes_on_joined, same_fault, named_fault}
+use Rattle.ci_overflow.proofs.Going.{named_fault}
 use Rattle.ci_overflow.proofs.JoinFaults.{empty-fits, base-grown, count-fault, new-there, new-empty}
 use Rattle.ci_overflow.proofs.Joins.{joins-new, base-before}
 use Rattle.ci_overflow.proofs.joined.join_new.Goals as goal
 use Rattle.ci_overflow.proofs.joined.join_new.Goals.{then-ci-first_independent-via-then-ci-first_independent, then-ci-first_independent-via-else-ci-first_independent+then-ends-ci}
+use Rattle.ci_space.proofs.GoingLemmas.{goes_on_joined}
+use Rattle.plain_laws.proofs.Results.{same_fault}
 
 pub join-requires-clause-behind : goal.join-requires-clause-behind
 join-requires-clause-behind g c = omega (

@@ -1,7 +1,7 @@
 use Rattle.std.proofs.Common.{◌<◌, length, ap, arith}
-use Rattle.ci_overflow.proofs.Going.{goes_on_joined}
 use Rattle.ci_overflow.proofs.Tries.{tried-taken, tried-full}
 use Rattle.ci_overflow.proofs.reading.try_take.Goals as goal
+use Rattle.ci_space.proofs.GoingLemmas.{goes_on_joined}
 
 pub returns-in_err-write-in-Some-clause-goes_on : goal.returns-in_err-write-in-Some-clause-goes_on
 returns-in_err-write-in-Some-clause-goes_on g c = goes_on_joined _ _ _ _ _ _ _ c.read.ensures.goes_on

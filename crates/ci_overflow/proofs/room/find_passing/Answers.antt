@@ -2,12 +2,12 @@ use Rattle.std.proofs.Common.{refl, arith}
 use Rattle.std.proofs.lemmas.Result.{err_from_is_err_and}
 use Rattle.ci_overflow.specs.Faults.{FitsEmpty}
 use Rattle.ci_overflow.specs.inside.Rooms.{TakesOne}
-use Rattle.ci_overflow.proofs.Going.{same_fault}
 use Rattle.ci_overflow.proofs.Tries.{option_some, option_none}
 use Rattle.ci_overflow.proofs.Orders.{orders-standing, orders-next, if_ok-on}
 use Rattle.ci_overflow.proofs.Finds.{takes-standing, takes-next, finds-standing, finds-next, base-some}
-use Rattle.ci_overflow.proofs.Knowns.{if_ok-both, known-back, known-here, known-next, known-room, own-joined}
+use Rattle.ci_overflow.proofs.Knowns.{known-back, known-here, known-next, known-room, own-joined}
 use Rattle.ci_overflow.proofs.room.find_passing.Goals as goal
+use Rattle.plain_laws.proofs.Results.{both_ok, same_fault}
 
 pub returns-in-Some-clause-one : goal.returns-in-Some-clause-one
 returns-in-Some-clause-one g c = λ t k. record {
@@ -28,7 +28,7 @@ returns-in-None-clause-one g c = λ t k.
     let base = base-some _ _ _ c.requires in
     let area = g.I.Intervals.intervals c.args.i.now in
     let now = g.I.Intervals.intervals c.join_next.new.i in
-    if_ok-both _ _ _ (TakesOne c.args.shape.now area now c.args.anchor c.args.length) (λ room j below. record {
+    both_ok _ _ _ (TakesOne c.args.shape.now area now c.args.anchor c.args.length) (λ room j below. record {
       takes = takes-next _ _ _ _ _ _ _ _ room number bound base c.in-None.is (c.in_ok-room.ensures.full t) j;
       own = own-joined c.args.shape.now _ _ c.args.anchor _ c.uow_of-uow.result room number j
           (omega (arith, below, g.met.I.Intervals.numbered c.join_next.new.i t2));

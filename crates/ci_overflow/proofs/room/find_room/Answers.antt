@@ -1,18 +1,18 @@
 use Rattle.ci_overflow.specs.inside.Rooms.{TakesOne}
 use Rattle.ci_overflow.proofs.FaultLemmas.{in-order-sound}
-use Rattle.ci_overflow.proofs.Tries.{if_ok-map}
 use Rattle.ci_overflow.proofs.Orders.{if_ok-on}
 use Rattle.ci_overflow.proofs.room.find_room.Goals as goal
+use Rattle.std.proofs.lemmas.Result.{IfOk-weaker}
 
 pub returns-clause-takes : goal.returns-clause-takes
-returns-clause-takes g c = λ t. if_ok-map _ _ _ (λ room (x : TakesOne _ _ _ _ _ room). x.takes)
+returns-clause-takes g c = λ t. IfOk-weaker _ _ _ (λ room (x : TakesOne _ _ _ _ _ room). x.takes)
     (c.find_passing.ensures.one t (c.none.ensures _ _ _ _))
 
 pub returns-clause-own : goal.returns-clause-own
-returns-clause-own g c = λ t. if_ok-map _ _ _ (λ room (x : TakesOne _ _ _ _ _ room). x.own) (c.find_passing.ensures.one t (c.none.ensures _ _ _ _))
+returns-clause-own g c = λ t. IfOk-weaker _ _ _ (λ room (x : TakesOne _ _ _ _ _ room). x.own) (c.find_passing.ensures.one t (c.none.ensures _ _ _ _))
 
 pub returns-clause-room : goal.returns-clause-room
-returns-clause-room g c = λ t o. if_ok-map _ _ _ (λ room (x : TakesOne _ _ _ _ _ room). x.finds o)
+returns-clause-room g c = λ t o. IfOk-weaker _ _ _ (λ room (x : TakesOne _ _ _ _ _ room). x.finds o)
     (c.find_passing.ensures.one t (c.none.ensures _ _ _ _))
 
 pub returns-clause-lists : goal.returns-clause-lists

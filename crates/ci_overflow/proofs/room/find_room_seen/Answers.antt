@@ -1,7 +1,7 @@
 use Rattle.std.proofs.lemmas.Result.{err_from_is_err_and}
 use Rattle.ci_overflow.proofs.FaultLemmas.{in-order-sound}
-use Rattle.ci_overflow.proofs.Going.{same_fault}
 use Rattle.ci_overflow.proofs.room.find_room_seen.Goals as goal
+use Rattle.plain_laws.proofs.Results.{same_fault}
 
 pub returns-clause-takes : goal.returns-clause-takes
 returns-clause-takes g c = λ t k. (c.in_ok-room.ensures.one t (c.take_known-full.ensures _ _ _ k).0).takes

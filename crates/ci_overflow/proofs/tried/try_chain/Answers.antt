@@ -1,7 +1,7 @@
 use Rattle.std.proofs.lemmas.Result.{err_from_is_err_and}
-use Rattle.ci_overflow.proofs.Going.{same_fault}
 use Rattle.ci_overflow.proofs.Knowns.{known-room}
 use Rattle.ci_overflow.proofs.tried.try_chain.Goals as goal
+use Rattle.plain_laws.proofs.Results.{same_fault}
 
 pub returns-in_err-stop-clause-damaged : goal.returns-in_err-stop-clause-damaged
 returns-in_err-stop-clause-damaged g c = λ t u b f k n e.

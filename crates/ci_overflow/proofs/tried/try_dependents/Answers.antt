@@ -1,11 +1,12 @@
 use Rattle.std.proofs.Common.{◌+◌, ◌∙◌, refl, arith}
 use Rattle.std.proofs.lemmas.Result.{err_from_is_err_and}
 use Rattle.ci_space.proofs.Going.{goes-itself}
-use Rattle.ci_overflow.proofs.Going.{goes_on_joined, same_fault}
 use Rattle.ci_overflow.proofs.FaultLemmas.{dependent-fault}
 use Rattle.ci_overflow.proofs.Knowns.{dependent-found, dependent-full, dependents-full, known-same, known-taken, known-so_far}
 use Rattle.ci_overflow.proofs.Tries.{gives-taken, gives-full, tried-none}
 use Rattle.ci_overflow.proofs.tried.try_dependents.Goals as goal
+use Rattle.ci_space.proofs.GoingLemmas.{goes_on_joined}
+use Rattle.plain_laws.proofs.Results.{same_fault}
 
 pub loop-number-init : goal.loop-number-init
 loop-number-init g c = record {

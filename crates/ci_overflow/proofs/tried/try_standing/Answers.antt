@@ -1,14 +1,13 @@
 use Rattle.std.proofs.Common.{◌<◌, ◌%◌, ◌∙◌, sym, ap, arith}
-use Rattle.std.proofs.lemmas.Result.{err_from_is_err_and}
+use Rattle.std.proofs.lemmas.Result.{err_from_is_err_and, IfOk-weaker}
 use Rattle.ci_overflow.specs.Places.{first_base, uow_of}
 use Rattle.ci_overflow.specs.Lists.{bytes_at, link_of}
-use Rattle.ci_overflow.proofs.Going.{same_fault}
 use Rattle.ci_overflow.proofs.Finds.{base-some}
 use Rattle.ci_overflow.proofs.FaultLemmas.{base-fault, first-fault}
-use Rattle.ci_overflow.proofs.Tries.{gives-full, gives-taken, standing-room, standing-rest, none-same, option_none, chain-again, if_ok-map}
-use Rattle.ci_overflow.proofs.Joins.{on_ok-map}
+use Rattle.ci_overflow.proofs.Tries.{gives-full, gives-taken, standing-room, standing-rest, none-same, option_none, chain-again}
 use Rattle.ci_overflow.proofs.Knowns.{known-here, known-same, known-taken, known-back, own-listed}
 use Rattle.ci_overflow.proofs.tried.try_standing.Goals as goal
+use Rattle.plain_laws.proofs.Results.{on_ok_map, same_fault}
 
 pub returns-in-Some-2-clause-tried : goal.returns-in-Some-2-clause-tried
 returns-in-Some-2-clause-tried g c = λ t k shared is_chain.
@@ -35,7 +34,7 @@ returns-clause-tried g c = λ t k shared is_chain.
     (sym same2) in
     let behind = known-same c.args.shape.now _ _ c.uow_of-uow.result _ _ same3 (c.in_ok-room.ensures.known t1 known) in
     let chain = chain-again _ _ _ _ _ _ shared same2 same3 first (c.in_ok-link.ensures.link t2 link) is_chain in
-    if_ok-map _ _ _ (λ room u. standing-rest _ _ _ _ _ _ _ _ shared _ room full.0 full.1 tried c.in_default-2.is same3
+    IfOk-weaker _ _ _ (λ room u. standing-rest _ _ _ _ _ _ _ _ shared _ room full.0 full.1 tried c.in_default-2.is same3
     u) (c.try_chain.ensures.tried t3 behind shared chain)
 
 pub returns-in_err-tried-clause-damaged : goal.returns-in_err-tried-clause-damaged
@@ -102,7 +101,7 @@ returns-clause-known g c = λ t k.
     let known = known-here c.args.shape.now _ _ _ _ _ _ full.1 c.uow_of-uow.ensures.number k in
     let behind = known-same c.args.shape.now _ _ c.uow_of-uow.result _ _ (c.list_link.ensures.same t2)
     (c.in_ok-room.ensures.known t1 known) in
-    on_ok-map _ _ _ (λ x. known-back c.args.shape.now _ _ _ _ _ c.uow_of-uow.ensures.number x)
+    on_ok_map _ _ _ (λ x. known-back c.args.shape.now _ _ _ _ _ c.uow_of-uow.ensures.number x)
     (c.try_chain.ensures.known t3 behind)
 
 pub returns-clause-own : goal.returns-clause-own
@@ -110,5 +109,5 @@ returns-clause-own g c = λ t.
     let t1 = c.try_take.ensures.goes_on.tells t in
     let t2 = c.try_dependents.ensures.goes_on.tells t1 in
     let t3 = c.list_link.ensures.goes_on.tells t2 in
-    if_ok-map _ _ _ (λ room o. own-listed c.args.shape.now _ c.args.anchor _ room c.uow_of-uow.ensures.number o)
+    IfOk-weaker _ _ _ (λ room o. own-listed c.args.shape.now _ c.args.anchor _ room c.uow_of-uow.ensures.number o)
     (c.try_chain.ensures.own t3)

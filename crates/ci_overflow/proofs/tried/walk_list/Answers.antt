@@ -4,13 +4,15 @@ use Rattle.std.proofs.lemmas.Bool.{cases_lt}
 use Rattle.ci_space.proofs.Going.{goes-itself}
 use Rattle.ci_overflow.specs.Places.{first_independent}
 use Rattle.ci_overflow.specs.Faults.{IsAtFault, in_base}
-use Rattle.ci_overflow.proofs.Going.{goes_on_joined, same_fault, named_fault}
+use Rattle.ci_overflow.proofs.Going.{named_fault}
 use Rattle.ci_overflow.proofs.Circles.{walk-begins, walk-over, walk-round}
 use Rattle.ci_overflow.proofs.FaultLemmas.{shared-fault, early-fault, late-fault}
 use Rattle.ci_overflow.proofs.Knowns.{chain-over, passed-on, passed-run, listed-owned}
 use Rattle.ci_overflow.proofs.Tries.{option_some, option_none, tried-some, tried-none, chain-begins, chain-found, chain-done}
 use Rattle.ci_overflow.proofs.tried.walk_list.Goals as goal
 use Rattle.ci_overflow.proofs.tried.walk_list.Goals.{then-turns-eq0-via-then-turns-eq0, then-turns-eq0-via-else-turns-eq0+then-ci-first_independent}
+use Rattle.ci_space.proofs.GoingLemmas.{goes_on_joined}
+use Rattle.plain_laws.proofs.Results.{same_fault}
 
 pub loop-ci-init : goal.loop-ci-init
 loop-ci-init g c = record {

@@ -4,9 +4,10 @@ use Rattle.clap.specs.Words.{App, HasKind, Kinds, Row, Text, fault_of, is_simple
 use Rattle.command_words.specs.inside.Apps.{program_app}
 use Rattle.command_words.specs.Words.{command_named, command_of}
 use Rattle.command_words.specs.inside.Words.{AreWords}
-use Rattle.command_words.proofs.Exact.{IsExact, exact, same_inside}
+use Rattle.command_words.proofs.Exact.{IsExact, exact}
 use Rattle.command_words.proofs.Forms.{name_in, name_of_rows, simple, simple_and_free}
 use Rattle.command_words.proofs.words.command_of.Goals as goal
+use Rattle.std.proofs.lemmas.Option.{same_Some}
 
 pub returns-in-Ok : goal.returns-in-Ok
 returns-in-Ok c =
@@ -22,7 +23,7 @@ returns-in-Ok c =
     let named : Some c.in-Some.name.now ≡ name_in words =
     search rules in
     c.command_named.ensures
-    ∙ ap command_named (c.as_bytes.ensures.value ∙ same_inside c.in-Some.name.now found.0 (named ∙ found.1))
+    ∙ ap command_named (c.as_bytes.ensures.value ∙ same_Some c.in-Some.name.now found.0 (named ∙ found.1))
     ∙ sym found.2
 
 pub returns : goal.returns

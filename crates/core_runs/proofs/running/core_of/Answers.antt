@@ -3,8 +3,9 @@ use Rattle.std.proofs.Common.{◌≡◌, refl, sym, ap, []}
 use Rattle.fp_model.specs.History.{beginning}
 use Rattle.fp_model.specs.Rules.{Rules}
 use Rattle.fp_model.specs.State.{start}
-use Rattle.core_runs.proofs.Reached.{if_ok_both, if_ok_by, reached_at_rest}
+use Rattle.core_runs.proofs.Reached.{if_ok_both, reached_at_rest}
 use Rattle.core_runs.proofs.running.core_of.Goals as goal
+use Rattle.plain_laws.proofs.Results.{if_ok_by}
 
 pub returns-clause-reached : goal.returns-clause-reached
 returns-clause-reached g c =

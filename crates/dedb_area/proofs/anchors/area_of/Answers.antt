@@ -2,8 +2,10 @@ use Rattle.std.proofs.Common.{◌≡◌, inl, inr, ◌+◌, ◌<◌, ◌^◌, �
 use Rattle.std.specs.Prelude.{Some, slice_get}
 use Rattle.std.proofs.lemmas.Bool.{cases_Bool}
 use Rattle.area_states.specs.Places.{has_anchor}
-use Rattle.dedb_area.proofs.AnchorLemmas.{area_from, at_number, found_here, got, next_area}
+use Rattle.dedb_area.proofs.AnchorLemmas.{area_from, found_here, next_area}
 use Rattle.dedb_area.proofs.anchors.area_of.Goals as goal
+use Rattle.area_laws.proofs.FullLemmas.{at_set}
+use Rattle.plain_laws.proofs.Places.{stands_at}
 
 pub areas-init : goal.areas-init
 areas-init c = λ set has.
@@ -49,7 +51,7 @@ areas-preserved c =
     let left = c.areas.invariant has.0 has.1 in
     let below : c.from.result < length places = omega (arith, within.0, within.1, left, c.from.ensures) in
     let here = subst (λ k. slice_get places k ≡ Some place) c.from.ensures
-    (got places c.from.result place below c.index-places-from.is) in
+    (stands_at places c.from.result place below c.index-places-from.is) in
     let none : has_anchor place c.args.dedb c.args.anchor ≡ false =
     elim (cases_Bool (has_anchor place c.args.dedb c.args.anchor)) [
       | inl it ↦ (let r : c.has_anchor.result ≡ true = c.has_anchor.ensures ∙ it in cc)
@@ -66,10 +68,10 @@ returns c =
     let left = c.areas.invariant has.0 has.1 in
     let below : c.from.result < length places = omega (arith, within.0, within.1, left, c.from.ensures) in
     let here = subst (λ k. slice_get places k ≡ Some place) c.from.ensures
-    (got places c.from.result place below c.index-places-from.is) in
+    (stands_at places c.from.result place below c.index-places-from.is) in
     let here_is : has_anchor place c.args.dedb c.args.anchor ≡ true =
     elim (cases_Bool (has_anchor place c.args.dedb c.args.anchor)) [
       | inl it ↦ it
       | inr none ↦ (let r : c.has_anchor.result ≡ false = c.has_anchor.ensures ∙ none in cc)
     ] in
-    found_here places c.args.dedb c.args.anchor c.areas.number place (at_number places c.areas.number place here) here_is
+    found_here places c.args.dedb c.args.anchor c.areas.number place (at_set places c.areas.number place here) here_is

@@ -1,9 +1,9 @@
 use Rattle.std.proofs.Common.{◌∙◌, ap, subst, length}
 use Rattle.dedb_area.specs.Applying.{IsFitImage, IsFitInterval}
 use Rattle.area_states.specs.Places.{place_at}
-use Rattle.area_staging.proofs.Data.{there}
 use Rattle.dedb_area.proofs.Applied.{fit_pended}
 use Rattle.dedb_area.proofs.applying.apply_item.Goals as goal
+use Rattle.plain_laws.proofs.Options.{some_value}
 
 pub returns-in_ok-pend-in-Image-clause-fit : goal.returns-in_ok-pend-in-Image-clause-fit
 returns-in_ok-pend-in-Image-clause-fit c places fits below fit =
@@ -16,7 +16,7 @@ returns-in_ok-pend-in-Image-clause-fit c places fits below fit =
 pub returns-in_ok-pend-in-Range-clause-fit : goal.returns-in_ok-pend-in-Range-clause-fit
 returns-in_ok-pend-in-Range-clause-fit c places fits below fit =
     let w = c.in_ok-behind-in-Range.ensures.written in
-    let p = there (place_at places c.in-Range.set) (fit.areas c.in-Range.set c.in-Range.ci w.0 w.1) in
+    let p = some_value (place_at places c.in-Range.set) (fit.areas c.in-Range.set c.in-Range.ci w.0 w.1) in
     let long = (fit.sizes c.in-Range.set p.0 p.1).pending c.in-Range.ci w.0 w.1 in
     fit_pended places c.args.place c.in-Range.set c.in-Range.ci c.in_ok-behind-in-Range.behind c.args.pool.now
     c.pend-in-Range.new.pool (c.in_ok-pend-in-Range.ensures.pending fit.unstaged)

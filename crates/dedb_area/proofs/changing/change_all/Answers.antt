@@ -2,8 +2,9 @@ use Rattle.std.proofs.Common.{ap, sym, subst}
 use Rattle.std.specs.Prelude.{Err}
 use Rattle.area_states.specs.Changes.{AllKeepLists, OneChanges, count_of, with_changes}
 use Rattle.dedb_area.proofs.CommitLemmas.{full_before, room_before}
-use Rattle.dedb_area.proofs.StageLemmas.{on_ok, same_fault_of}
+use Rattle.dedb_area.proofs.StageLemmas.{same_fault_of}
 use Rattle.dedb_area.proofs.changing.change_all.Goals as goal
+use Rattle.plain_laws.proofs.Results.{at_ok}
 
 pub returns-in-Ok-clause-room : goal.returns-in-Ok-clause-room
 returns-in-Ok-clause-room g c = λ told state has fits.
@@ -39,5 +40,5 @@ returns-in-Ok-clause-one g c = λ told state has fits one.
     let keeps = (subst (AllKeepLists place state) one.only fits.lists).0 in
     let alone = c.in-Ok.ensures.alone told state has one.change one.only keeps one.ordered one.differs in
     let idle = c.append_all.ensures.idle (ap (count_of place) one.no_insert) in
-    on_ok c.append_all.result (OneChanges old (g.I.Intervals.intervals c.append_all.new.i))
+    at_ok c.append_all.result (OneChanges old (g.I.Intervals.intervals c.append_all.new.i))
     (subst (λ x. OneChanges old (g.I.Intervals.intervals x)) (sym idle) alone)

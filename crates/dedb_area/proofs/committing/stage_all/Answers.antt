@@ -2,7 +2,6 @@ use Rattle.std.proofs.Common.{◌≡◌, inl, inr, ◌+◌, ◌<◌, length, ref
 use Rattle.std.specs.Prelude.{Some}
 use Rattle.std.proofs.lemmas.Result.{err_from_is_err_and}
 use Rattle.fp_model.specs.State.{first_area_set}
-use Rattle.root_anchor.proofs.Exits.{same_fault}
 use Rattle.area_states.specs.Databases.{state_of}
 use Rattle.area_states.specs.Places.{counted_by, place_at}
 use Rattle.std.specs.List.{AllByRecursion}
@@ -16,12 +15,15 @@ use Rattle.std.proofs.lemmas.Bool.{cases_Bool}
 use Rattle.dedb_area.specs.Committing.{IsFitItem, IsLeast, committed, is_concerned}
 use Rattle.dedb_area.specs.inside.Committing.{AreStagedUpTo}
 use Rattle.dedb_area.proofs.Ones.{not_yet, one_added, one_in_all, one_passed, two_concerned}
-use Rattle.dedb_area.proofs.AnchorLemmas.{at_number, got, state_here, within_areas}
+use Rattle.dedb_area.proofs.AnchorLemmas.{state_here, within_areas}
 use Rattle.dedb_area.proofs.CommitLaws.{counts_in_time}
 use Rattle.dedb_area.proofs.Data.{place_there}
 use Rattle.dedb_area.proofs.StagedAreas.{before_next_area, fit_more_items, flag_more_items, least_more_items, makes_as, area_more, none_yet, order_more_items}
 use Rattle.dedb_area.proofs.Staying.{all_itself, all_more, all_shown}
 use Rattle.dedb_area.proofs.committing.stage_all.Goals as goal
+use Rattle.area_laws.proofs.FullLemmas.{at_set}
+use Rattle.plain_laws.proofs.Places.{stands_at}
+use Rattle.plain_laws.proofs.Results.{same_fault}
 
 pub loop-place-init : goal.loop-place-init
 loop-place-init g c =
@@ -56,8 +58,8 @@ loop-place-init g c =
 pub stage_here-requires-clause-place : goal.stage_here-requires-clause-place
 stage_here-requires-clause-place g c =
     let index = c.loop-place.place-index in
-    let is = at_number c.args.places.now index c.place-item.result
-    (got c.args.places.now index c.place-item.result c.loop-place-test.true c.place-item.is) in
+    let is = at_set c.args.places.now index c.place-item.result
+    (stands_at c.args.places.now index c.place-item.result c.loop-place-test.true c.place-item.is) in
     place_there c.args.places.now (first_area_set + index) c.place-item.result c.requires.places is
 
 pub stage_here-requires-clause-within : goal.stage_here-requires-clause-within
@@ -71,15 +73,15 @@ stage_here-requires-clause-within g c =
 pub stage_here-requires-clause-storable : goal.stage_here-requires-clause-storable
 stage_here-requires-clause-storable g c =
     let index = c.loop-place.place-index in
-    let is = at_number c.args.places.now index c.place-item.result
-    (got c.args.places.now index c.place-item.result c.loop-place-test.true c.place-item.is) in
+    let is = at_set c.args.places.now index c.place-item.result
+    (stands_at c.args.places.now index c.place-item.result c.loop-place-test.true c.place-item.is) in
     c.requires.stageable.storable (first_area_set + index) c.place-item.result is
 
 pub stage_here-requires-clause-insertable : goal.stage_here-requires-clause-insertable
 stage_here-requires-clause-insertable g c =
     let index = c.loop-place.place-index in
-    let is = at_number c.args.places.now index c.place-item.result
-    (got c.args.places.now index c.place-item.result c.loop-place-test.true c.place-item.is) in
+    let is = at_set c.args.places.now index c.place-item.result
+    (stands_at c.args.places.now index c.place-item.result c.loop-place-test.true c.place-item.is) in
     c.requires.stageable.insertable (first_area_set + index) c.place-item.result is
 
 -- ---- it can't be staged
@@ -93,7 +95,7 @@ returns-in_err-more-clause-full g c = λ told newest db shown are none fits s be
     let set = c.loop-place.set in
     let is : place_at places set ≡ Some place =
     ap (place_at places) inv.here
-    ∙ at_number places index place (got places index place c.loop-place-test.true c.place-item.is) in
+    ∙ at_set places index place (stands_at places index place c.loop-place-test.true c.place-item.is) in
     let shown1 = all_shown g.T.Site.told g.T.Site.disk g.T.Site.faults g.T.Site.holds g.T.Site.keeps places
     c.args.site.now c.loop-place.site c.args.pool.now c.loop-place.pool newest inv.stages told shown in
     let p = err_from_is_err_and c.from_residual.result c.from_residual.ensures.1 in
@@ -103,7 +105,7 @@ returns-in_err-more-clause-full g c = λ told newest db shown are none fits s be
     record {
       place = place;
       is_place = ap (place_at places) here ∙ is;
-      too_full = c.in_err-more.ensures.full (inv.stages.tells told) (newest set) (shown1 set place is)
+      too_full = c.in_err-more.ensures.full (inv.stages.continued.still_told told) (newest set) (shown1 set place is)
           (state_of place db) (state_here places newest db set place are is) (fits set place is) s begin end n fault;
       first = λ earlier other there lt. done.room earlier other there (let h = inv.here in omega (arith, h, here, lt));
     }
@@ -117,11 +119,12 @@ returns-in_err-more-clause-sound g c = λ told newest db shown are fits ends s a
     let set = c.loop-place.set in
     let is : place_at places set ≡ Some place =
     ap (place_at places) inv.here
-    ∙ at_number places index place (got places index place c.loop-place-test.true c.place-item.is) in
+    ∙ at_set places index place (stands_at places index place c.loop-place-test.true c.place-item.is) in
     let shown1 = all_shown g.T.Site.told g.T.Site.disk g.T.Site.faults g.T.Site.holds g.T.Site.keeps places
     c.args.site.now c.loop-place.site c.args.pool.now c.loop-place.pool newest inv.stages told shown in
     let p = err_from_is_err_and c.from_residual.result c.from_residual.ensures.1 in
-    c.in_err-more.ensures.sound (inv.stages.tells told) (newest set) (shown1 set place is) (state_of place db)
+    let t1 = inv.stages.continued.still_told told in
+    c.in_err-more.ensures.sound t1 (newest set) (shown1 set place is) (state_of place db)
     (state_here places newest db set place are is) (fits set place is)
     (counts_in_time places newest db set place are ends is) s at (same_fault _ _ _ _ p.1 p.2 e)
 
@@ -134,7 +137,7 @@ returns-in_err-more-clause-begins g c = λ s at e.
     let set = c.loop-place.set in
     let is : place_at places set ≡ Some place =
     ap (place_at places) inv.here
-    ∙ at_number places index place (got places index place c.loop-place-test.true c.place-item.is) in
+    ∙ at_set places index place (stands_at places index place c.loop-place-test.true c.place-item.is) in
     let p = err_from_is_err_and c.from_residual.result c.from_residual.ensures.1 in
     let found = c.in_err-more.ensures.begins s at (same_fault _ _ _ _ p.1 p.2 e) in
     record {
@@ -153,12 +156,12 @@ returns-in_err-more-clause-unread g c = λ told newest shown all.
     let set = c.loop-place.set in
     let is : place_at places set ≡ Some place =
     ap (place_at places) inv.here
-    ∙ at_number places index place (got places index place c.loop-place-test.true c.place-item.is) in
+    ∙ at_set places index place (stands_at places index place c.loop-place-test.true c.place-item.is) in
     let shown1 = all_shown g.T.Site.told g.T.Site.disk g.T.Site.faults g.T.Site.holds g.T.Site.keeps places
     c.args.site.now c.loop-place.site c.args.pool.now c.loop-place.pool newest inv.stages told shown in
     reads_then g.T.Site.tells_reads g.T.Site.bytes_read c.args.site.now c.loop-place.site c.stage_here.new.site
     (inv.unread told newest shown all)
-    (c.stage_here.ensures.unread (inv.stages.tells told) (newest set) (shown1 set place is) (λ some.
+    (c.stage_here.ensures.unread (inv.stages.continued.still_told told) (newest set) (shown1 set place is) (λ some.
     still_at_hand set (counted_by (Some place) (newest set 0)) c.args.pool.now c.loop-place.pool
     (all set place is some) (inv.hand told newest shown all)))
 
@@ -171,11 +174,11 @@ returns-in_err-more-clause-hand g c = λ told newest shown all.
     let set = c.loop-place.set in
     let is : place_at places set ≡ Some place =
     ap (place_at places) inv.here
-    ∙ at_number places index place (got places index place c.loop-place-test.true c.place-item.is) in
+    ∙ at_set places index place (stands_at places index place c.loop-place-test.true c.place-item.is) in
     let shown1 = all_shown g.T.Site.told g.T.Site.disk g.T.Site.faults g.T.Site.holds g.T.Site.keeps places
     c.args.site.now c.loop-place.site c.args.pool.now c.loop-place.pool newest inv.stages told shown in
     hand_then c.args.pool.now c.loop-place.pool c.stage_here.new.pool (inv.hand told newest shown all)
-    (c.stage_here.ensures.hand (inv.stages.tells told) (newest set) (shown1 set place is) (λ some.
+    (c.stage_here.ensures.hand (inv.stages.continued.still_told told) (newest set) (shown1 set place is) (λ some.
     still_at_hand set (counted_by (Some place) (newest set 0)) c.args.pool.now c.loop-place.pool
     (all set place is some) (inv.hand told newest shown all)))
 
@@ -188,7 +191,7 @@ returns-in_err-more-clause-stages g c =
     let set = c.loop-place.set in
     let is : place_at places set ≡ Some place =
     ap (place_at places) inv.here
-    ∙ at_number places index place (got places index place c.loop-place-test.true c.place-item.is) in
+    ∙ at_set places index place (stands_at places index place c.loop-place-test.true c.place-item.is) in
     all_more g.T.Site.told g.T.Site.disk g.T.Site.faults g.T.Site.holds g.T.Site.keeps places
     (λ s t. g.met.T.Site.lawful s t) set place c.args.site.now c.loop-place.site c.stage_here.new.site c.args.pool.now
     c.loop-place.pool c.stage_here.new.pool is inv.stages c.stage_here.ensures.stages
@@ -202,12 +205,12 @@ returns-in_err-append-clause-unread g c = λ told newest shown all.
     let set = c.loop-place.set in
     let is : place_at places set ≡ Some place =
     ap (place_at places) inv.here
-    ∙ at_number places index place (got places index place c.loop-place-test.true c.place-item.is) in
+    ∙ at_set places index place (stands_at places index place c.loop-place-test.true c.place-item.is) in
     let shown1 = all_shown g.T.Site.told g.T.Site.disk g.T.Site.faults g.T.Site.holds g.T.Site.keeps places
     c.args.site.now c.loop-place.site c.args.pool.now c.loop-place.pool newest inv.stages told shown in
     reads_then g.T.Site.tells_reads g.T.Site.bytes_read c.args.site.now c.loop-place.site c.stage_here.new.site
     (inv.unread told newest shown all)
-    (c.stage_here.ensures.unread (inv.stages.tells told) (newest set) (shown1 set place is) (λ some.
+    (c.stage_here.ensures.unread (inv.stages.continued.still_told told) (newest set) (shown1 set place is) (λ some.
     still_at_hand set (counted_by (Some place) (newest set 0)) c.args.pool.now c.loop-place.pool
     (all set place is some) (inv.hand told newest shown all)))
 
@@ -220,11 +223,11 @@ returns-in_err-append-clause-hand g c = λ told newest shown all.
     let set = c.loop-place.set in
     let is : place_at places set ≡ Some place =
     ap (place_at places) inv.here
-    ∙ at_number places index place (got places index place c.loop-place-test.true c.place-item.is) in
+    ∙ at_set places index place (stands_at places index place c.loop-place-test.true c.place-item.is) in
     let shown1 = all_shown g.T.Site.told g.T.Site.disk g.T.Site.faults g.T.Site.holds g.T.Site.keeps places
     c.args.site.now c.loop-place.site c.args.pool.now c.loop-place.pool newest inv.stages told shown in
     hand_then c.args.pool.now c.loop-place.pool c.stage_here.new.pool (inv.hand told newest shown all)
-    (c.stage_here.ensures.hand (inv.stages.tells told) (newest set) (shown1 set place is) (λ some.
+    (c.stage_here.ensures.hand (inv.stages.continued.still_told told) (newest set) (shown1 set place is) (λ some.
     still_at_hand set (counted_by (Some place) (newest set 0)) c.args.pool.now c.loop-place.pool
     (all set place is some) (inv.hand told newest shown all)))
 
@@ -237,7 +240,7 @@ returns-in_err-append-clause-stages g c =
     let set = c.loop-place.set in
     let is : place_at places set ≡ Some place =
     ap (place_at places) inv.here
-    ∙ at_number places index place (got places index place c.loop-place-test.true c.place-item.is) in
+    ∙ at_set places index place (stands_at places index place c.loop-place-test.true c.place-item.is) in
     all_more g.T.Site.told g.T.Site.disk g.T.Site.faults g.T.Site.holds g.T.Site.keeps places
     (λ s t. g.met.T.Site.lawful s t) set place c.args.site.now c.loop-place.site c.stage_here.new.site c.args.pool.now
     c.loop-place.pool c.stage_here.new.pool is inv.stages c.stage_here.ensures.stages
@@ -253,7 +256,7 @@ loop-place-preserved g c =
     let set = c.loop-place.set in
     let is : place_at places set ≡ Some place =
     ap (place_at places) inv.here
-    ∙ at_number places index place (got places index place c.loop-place-test.true c.place-item.is) in
+    ∙ at_set places index place (stands_at places index place c.loop-place-test.true c.place-item.is) in
     let items = c.loop-place.items in
     let more = c.in_ok-more.more in
     let lt = c.loop-place-test.true in
@@ -276,7 +279,7 @@ loop-place-preserved g c =
           subst (AllByRecursion (IsLeast places (is_imaged c.args.imaged.now.items) newest)) (sym added)
           (least_more_items places set place (is_imaged c.loop-place.imaged.items)
           (is_imaged c.args.imaged.now.items) newest items more is inv.flags (inv.least told newest shown)
-          (c.in_ok-more.ensures.least (inv.stages.tells told) (newest set) (shown1 set place is))
+          (c.in_ok-more.ensures.least (inv.stages.continued.still_told told) (newest set) (shown1 set place is))
           c.in_ok-more.ensures.fit);
       in_order = ap is_ascending added
           ∙ order_more_items set place.shape.ci items more before inv.in_order c.in_ok-more.ensures.in_order
@@ -290,7 +293,7 @@ loop-place-preserved g c =
       staged = λ told newest db shown are none fits.
           let shown1 = all_shown g.T.Site.told g.T.Site.disk g.T.Site.faults g.T.Site.holds g.T.Site.keeps places
           c.args.site.now c.loop-place.site c.args.pool.now c.loop-place.pool newest inv.stages told shown in
-          let t1 = inv.stages.tells told in
+          let t1 = inv.stages.continued.still_told told in
           let has = state_here places newest db set place are is in
           area_more places index set (is_imaged c.args.imaged.now.items) newest c.args.changes.now c.args.inserts.now
           db items more c.append.new.self c.loop-place.pool c.stage_here.new.pool place inv.here added is
@@ -307,15 +310,16 @@ loop-place-preserved g c =
       unread = λ told newest shown all.
           let shown1 = all_shown g.T.Site.told g.T.Site.disk g.T.Site.faults g.T.Site.holds g.T.Site.keeps places
           c.args.site.now c.loop-place.site c.args.pool.now c.loop-place.pool newest inv.stages told shown in
+          let t1 = inv.stages.continued.still_told told in
           reads_then g.T.Site.tells_reads g.T.Site.bytes_read c.args.site.now c.loop-place.site c.stage_here.new.site
           (inv.unread told newest shown all)
-          (c.stage_here.ensures.unread (inv.stages.tells told) (newest set) (shown1 set place is) (λ some.
+          (c.stage_here.ensures.unread t1 (newest set) (shown1 set place is) (λ some.
           still_at_hand set (counted_by (Some place) (newest set 0)) c.args.pool.now c.loop-place.pool
           (all set place is some) (inv.hand told newest shown all)));
       one = λ told newest db shown are fits whole.
           let shown1 = all_shown g.T.Site.told g.T.Site.disk g.T.Site.faults g.T.Site.holds g.T.Site.keeps places
           c.args.site.now c.loop-place.site c.args.pool.now c.loop-place.pool newest inv.stages told shown in
-          let t1 = inv.stages.tells told in
+          let t1 = inv.stages.continued.still_told told in
           let has = state_here places newest db set place are is in
           let was = inv.one told newest db shown are fits whole in
           elim (cases_Bool (is_concerned place c.args.changes.now c.args.inserts.now)) [
@@ -330,8 +334,9 @@ loop-place-preserved g c =
       hand = λ told newest shown all.
           let shown1 = all_shown g.T.Site.told g.T.Site.disk g.T.Site.faults g.T.Site.holds g.T.Site.keeps places
           c.args.site.now c.loop-place.site c.args.pool.now c.loop-place.pool newest inv.stages told shown in
+          let t1 = inv.stages.continued.still_told told in
           hand_then c.args.pool.now c.loop-place.pool c.stage_here.new.pool (inv.hand told newest shown all)
-          (c.stage_here.ensures.hand (inv.stages.tells told) (newest set) (shown1 set place is) (λ some.
+          (c.stage_here.ensures.hand t1 (newest set) (shown1 set place is) (λ some.
           still_at_hand set (counted_by (Some place) (newest set 0)) c.args.pool.now c.loop-place.pool
           (all set place is some) (inv.hand told newest shown all)));
     }

@@ -6,23 +6,23 @@ use Rattle.std.specs.Ordering.{nat_cmp}
 use Rattle.std.specs.BTreeMap.{get}
 use Rattle.std.proofs.lemmas.Result.{err_from_is_err_and}
 use Rattle.ci_pool.specs.Held.{held_at}
-use Rattle.root_anchor.proofs.Exits.{same_fault}
 use Rattle.area_states.specs.Places.{counted_by}
 use Rattle.area_staging.specs.Changing.{IsFitFor, IsLeastOf, MakeChanges, StagesItems}
 use Rattle.area_staging.specs.Items.{is_imaged}
 use Rattle.area_staging.specs.Staging.{AllAtHand}
 use Rattle.area_staging.proofs.AtHand.{hand_then, still_at_hand}
-use Rattle.area_staging.proofs.Data.{there}
 use Rattle.area_staging.proofs.Looks.{looks_then, same_staged}
 use Rattle.area_staging.proofs.Staged.{reads_nothing, reads_then}
 use Rattle.area_staging.proofs.Stages.{stages_looked, stages_then}
 use Rattle.dedb_area.specs.Committing.{committed}
 use Rattle.dedb_area.specs.inside.Committing.{MakesArea}
-use Rattle.dedb_area.proofs.AnchorLemmas.{begin_first, by_ok, some_counted, still_shown}
+use Rattle.dedb_area.proofs.AnchorLemmas.{begin_first, some_counted, still_shown}
 use Rattle.dedb_area.proofs.CommitLemmas.{makes_area}
 use Rattle.dedb_area.proofs.Ones.{at_most_one, just_one, ok_three}
-use Rattle.dedb_area.proofs.StageLemmas.{given_ok, has_extent, ok_both, on_ok, shows_extent, stages_behind}
+use Rattle.dedb_area.proofs.StageLemmas.{given_ok, has_extent, ok_both, shows_extent, stages_behind}
 use Rattle.dedb_area.proofs.committing.stage_area.Goals as goal
+use Rattle.plain_laws.proofs.Results.{at_ok, if_ok_with, same_fault}
+use Rattle.plain_laws.proofs.Options.{some_value}
 
 -- ---- control doesn't count
 
@@ -49,13 +49,13 @@ returns-in_err-count-clause-here g c = λ s begin end n e.
 
 pub returns-in_err-count-clause-unread : goal.returns-in_err-count-clause-unread
 returns-in_err-count-clause-unread g c = λ told bytes shown all.
-    let w = there (held_at c.args.pool.now c.args.set 0) (all 0 (some_counted c.args.place.now (bytes 0))) in
+    let w = some_value (held_at c.args.pool.now c.args.set 0) (all 0 (some_counted c.args.place.now (bytes 0))) in
     reads_nothing g.T.Site.tells_reads g.T.Site.bytes_read c.args.site.now c.counted.new.site
     (c.counted.ensures.unread w.0 w.1)
 
 pub returns-in_err-count-clause-hand : goal.returns-in_err-count-clause-hand
 returns-in_err-count-clause-hand g c = λ told bytes shown all.
-    let w = there (held_at c.args.pool.now c.args.set 0) (all 0 (some_counted c.args.place.now (bytes 0))) in
+    let w = some_value (held_at c.args.pool.now c.args.set 0) (all 0 (some_counted c.args.place.now (bytes 0))) in
     c.counted.ensures.hand w.0 w.1
 
 pub returns-in_err-count-clause-stages : goal.returns-in_err-count-clause-stages
@@ -74,7 +74,7 @@ returns-in_err-changed-clause-full g c = λ told bytes shown state has fits s be
     bytes c.args.site.now c.counted.new.site c.args.pool.now c.counted.new.pool looks told shown in
     let from = c.in_ok-count.ensures.count told bytes shown in
     let p = err_from_is_err_and c.from_residual-in_err-changed.result c.from_residual-in_err-changed.ensures.1 in
-    c.in_err-changed.ensures.full (looks.tells told) bytes
+    c.in_err-changed.ensures.full (looks.continued.still_told told) bytes
     (shows_extent place c.args.set c.in_ok-count.count _ c.counted.new.pool bytes from shown1) state
     (has_extent place c.in_ok-count.count bytes state from has) fits s begin end n (same_fault _ _ _ _ p.1 p.2 e)
 
@@ -86,7 +86,7 @@ returns-in_err-changed-clause-sound g c = λ told bytes shown state has fits cou
     bytes c.args.site.now c.counted.new.site c.args.pool.now c.counted.new.pool looks told shown in
     let from = c.in_ok-count.ensures.count told bytes shown in
     let p = err_from_is_err_and c.from_residual-in_err-changed.result c.from_residual-in_err-changed.ensures.1 in
-    c.in_err-changed.ensures.sound (looks.tells told) bytes
+    c.in_err-changed.ensures.sound (looks.continued.still_told told) bytes
     (shows_extent place c.args.set c.in_ok-count.count _ c.counted.new.pool bytes from shown1) state
     (has_extent place c.in_ok-count.count bytes state from has) fits s at (same_fault _ _ _ _ p.1 p.2 e)
 
@@ -104,7 +104,7 @@ pub returns-in_err-changed-clause-unread : goal.returns-in_err-changed-clause-un
 returns-in_err-changed-clause-unread g c = λ told bytes shown all.
     let place = c.args.place.now in
     let looks = c.counted.ensures.looks in
-    let w = there (held_at c.args.pool.now c.args.set 0) (all 0 (some_counted place (bytes 0))) in
+    let w = some_value (held_at c.args.pool.now c.args.set 0) (all 0 (some_counted place (bytes 0))) in
     let all1 = still_at_hand c.args.set c.in_ok-count.count c.args.pool.now c.counted.new.pool
     (subst (λ n. AllAtHand c.args.pool.now c.args.set n) (sym (c.in_ok-count.ensures.count told bytes shown)) all)
     (c.counted.ensures.hand w.0 w.1) in
@@ -115,7 +115,7 @@ returns-in_err-changed-clause-unread g c = λ told bytes shown all.
 
 pub returns-in_err-changed-clause-hand : goal.returns-in_err-changed-clause-hand
 returns-in_err-changed-clause-hand g c = λ told bytes shown all.
-    let w = there (held_at c.args.pool.now c.args.set 0) (all 0 (some_counted c.args.place.now (bytes 0))) in
+    let w = some_value (held_at c.args.pool.now c.args.set 0) (all 0 (some_counted c.args.place.now (bytes 0))) in
     let all1 = still_at_hand c.args.set c.in_ok-count.count c.args.pool.now c.counted.new.pool
     (subst (λ n. AllAtHand c.args.pool.now c.args.set n) (sym (c.in_ok-count.ensures.count told bytes shown)) all)
     (c.counted.ensures.hand w.0 w.1) in
@@ -144,20 +144,20 @@ returns-clause-made g c = λ told bytes shown state has fits.
     bytes c.args.site.now c.counted.new.site c.args.pool.now c.counted.new.pool looks told shown in
     let shown2 = still_shown g.T.Site.told g.T.Site.disk g.T.Site.faults g.T.Site.holds g.T.Site.keeps place c.args.set
     bytes c.counted.new.site c.changed_intervals.new.site c.counted.new.pool c.changed_intervals.new.pool looks2
-    (looks.tells told) shown1 in
+    (looks.continued.still_told told) shown1 in
     let from = c.in_ok-count.ensures.count told bytes shown in
-    let to = c.in_ok-changed.ensures.changed (looks.tells told) bytes
+    let to = c.in_ok-changed.ensures.changed (looks.continued.still_told told) bytes
     (shows_extent place c.args.set count _ c.counted.new.pool bytes from shown1) state
     (has_extent place count bytes state from has) fits in
     given_ok c.given_items.result c.stage_changed-staged.result
     (MakesArea place c.args.set (is_imaged c.args.imaged.now.items c.args.set) bytes
     (committed place c.args.changes.now c.args.inserts.now state)) c.given_items.ensures.same
-    (by_ok c.stage_changed-staged.result
+    (if_ok_with c.stage_changed-staged.result
     (MakeChanges c.args.set count (is_imaged c.args.imaged.now.items c.args.set) bytes
     (get nat_cmp c.in_ok-changed.changed))
     (MakesArea place c.args.set (is_imaged c.args.imaged.now.items c.args.set) bytes
     (committed place c.args.changes.now c.args.inserts.now state))
-    (c.stage_changed-staged.ensures.made (looks2.tells (looks.tells told)) bytes
+    (c.stage_changed-staged.ensures.made (looks2.continued.still_told (looks.continued.still_told told)) bytes
     (shows_extent place c.args.set count _ c.changed_intervals.new.pool bytes from shown2))
     (λ items made. makes_area place c.args.set count (is_imaged c.args.imaged.now.items c.args.set) bytes
     (committed place c.args.changes.now c.args.inserts.now state) (get nat_cmp c.in_ok-changed.changed) items from made
@@ -174,9 +174,9 @@ returns-clause-one g c = λ told bytes shown state has fits one concerned.
     bytes c.args.site.now c.counted.new.site c.args.pool.now c.counted.new.pool looks told shown in
     let shown2 = still_shown g.T.Site.told g.T.Site.disk g.T.Site.faults g.T.Site.holds g.T.Site.keeps place c.args.set
     bytes c.counted.new.site c.changed_intervals.new.site c.counted.new.pool c.changed_intervals.new.pool looks2
-    (looks.tells told) shown1 in
+    (looks.continued.still_told told) shown1 in
     let from = c.in_ok-count.ensures.count told bytes shown in
-    let to = c.in_ok-changed.ensures.one (looks.tells told) bytes
+    let to = c.in_ok-changed.ensures.one (looks.continued.still_told told) bytes
     (shows_extent place c.args.set count _ c.counted.new.pool bytes from shown1) state
     (has_extent place count bytes state from has) fits one in
     let most = given_ok c.given_items.result c.stage_changed-staged.result (λ items. length items ≤ 1)
@@ -185,7 +185,7 @@ returns-clause-one g c = λ told bytes shown state has fits one concerned.
     (MakeChanges c.args.set count imaged bytes (get nat_cmp c.in_ok-changed.changed))
     (AllByRecursion (IsFitFor c.args.set place.shape.ci)) (λ items. is_ascending items ≡ true)
     (λ items. length items ≤ 1)
-    (c.stage_changed-staged.ensures.made (looks2.tells (looks.tells told)) bytes
+    (c.stage_changed-staged.ensures.made (looks2.continued.still_told (looks.continued.still_told told)) bytes
     (shows_extent place c.args.set count _ c.changed_intervals.new.pool bytes from shown2))
     c.stage_changed-staged.ensures.fit c.stage_changed-staged.ensures.in_order
     (λ items made fit up. at_most_one c.args.set count place.shape.ci imaged bytes
@@ -206,15 +206,15 @@ returns-clause-staged g c = λ told bytes shown.
     bytes c.args.site.now c.counted.new.site c.args.pool.now c.counted.new.pool looks told shown in
     let shown2 = still_shown g.T.Site.told g.T.Site.disk g.T.Site.faults g.T.Site.holds g.T.Site.keeps place c.args.set
     bytes c.counted.new.site c.changed_intervals.new.site c.counted.new.pool c.changed_intervals.new.pool looks2
-    (looks.tells told) shown1 in
+    (looks.continued.still_told told) shown1 in
     let from = c.in_ok-count.ensures.count told bytes shown in
     given_ok c.given_items.result c.stage_changed-staged.result
     (λ items. StagesItems c.args.set items bytes c.args.pool.now c.stage_changed-staged.new.pool)
     c.given_items.ensures.same
-    (by_ok c.stage_changed-staged.result
+    (if_ok_with c.stage_changed-staged.result
     (λ items. StagesItems c.args.set items bytes c.changed_intervals.new.pool c.stage_changed-staged.new.pool)
     (λ items. StagesItems c.args.set items bytes c.args.pool.now c.stage_changed-staged.new.pool)
-    (c.stage_changed-staged.ensures.staged (looks2.tells (looks.tells told)) bytes
+    (c.stage_changed-staged.ensures.staged (looks2.continued.still_told (looks.continued.still_told told)) bytes
     (shows_extent place c.args.set count _ c.changed_intervals.new.pool bytes from shown2))
     (λ items staged. stages_behind c.args.set items bytes c.args.pool.now c.changed_intervals.new.pool
     c.stage_changed-staged.new.pool
@@ -231,12 +231,12 @@ returns-clause-least g c = λ told bytes shown.
     bytes c.args.site.now c.counted.new.site c.args.pool.now c.counted.new.pool looks told shown in
     let shown2 = still_shown g.T.Site.told g.T.Site.disk g.T.Site.faults g.T.Site.holds g.T.Site.keeps place c.args.set
     bytes c.counted.new.site c.changed_intervals.new.site c.counted.new.pool c.changed_intervals.new.pool looks2
-    (looks.tells told) shown1 in
+    (looks.continued.still_told told) shown1 in
     let from = c.in_ok-count.ensures.count told bytes shown in
     given_ok c.given_items.result c.stage_changed-staged.result
     (AllByRecursion (IsLeastOf (counted_by (Some place) (bytes 0)) imaged bytes)) c.given_items.ensures.same
     (subst (λ n. IfOk c.stage_changed-staged.result (AllByRecursion (IsLeastOf n imaged bytes))) from
-    (c.stage_changed-staged.ensures.least (looks2.tells (looks.tells told)) bytes
+    (c.stage_changed-staged.ensures.least (looks2.continued.still_told (looks.continued.still_told told)) bytes
     (shows_extent place c.args.set count _ c.changed_intervals.new.pool bytes from shown2)))
 
 pub returns-clause-room : goal.returns-clause-room
@@ -247,8 +247,8 @@ returns-clause-room g c = λ told bytes shown state has fits.
     let shown1 = still_shown g.T.Site.told g.T.Site.disk g.T.Site.faults g.T.Site.holds g.T.Site.keeps place c.args.set
     bytes c.args.site.now c.counted.new.site c.args.pool.now c.counted.new.pool looks told shown in
     let from = c.in_ok-count.ensures.count told bytes shown in
-    on_ok c.given_items.result _
-    (c.in_ok-changed.ensures.room (looks.tells told) bytes
+    at_ok c.given_items.result _
+    (c.in_ok-changed.ensures.room (looks.continued.still_told told) bytes
     (shows_extent place c.args.set count _ c.counted.new.pool bytes from shown1) state
     (has_extent place count bytes state from has) fits)
 
@@ -258,7 +258,7 @@ returns-clause-unread g c = λ told bytes shown all.
     let count = c.in_ok-count.count in
     let looks = c.counted.ensures.looks in
     let looks2 = c.changed_intervals.ensures.looks in
-    let w = there (held_at c.args.pool.now c.args.set 0) (all 0 (some_counted place (bytes 0))) in
+    let w = some_value (held_at c.args.pool.now c.args.set 0) (all 0 (some_counted place (bytes 0))) in
     let all1 = still_at_hand c.args.set count c.args.pool.now c.counted.new.pool
     (subst (λ n. AllAtHand c.args.pool.now c.args.set n) (sym (c.in_ok-count.ensures.count told bytes shown)) all)
     (c.counted.ensures.hand w.0 w.1) in
@@ -276,7 +276,7 @@ returns-clause-unread g c = λ told bytes shown all.
 pub returns-clause-hand : goal.returns-clause-hand
 returns-clause-hand g c = λ told bytes shown all.
     let count = c.in_ok-count.count in
-    let w = there (held_at c.args.pool.now c.args.set 0) (all 0 (some_counted c.args.place.now (bytes 0))) in
+    let w = some_value (held_at c.args.pool.now c.args.set 0) (all 0 (some_counted c.args.place.now (bytes 0))) in
     let all1 = still_at_hand c.args.set count c.args.pool.now c.counted.new.pool
     (subst (λ n. AllAtHand c.args.pool.now c.args.set n) (sym (c.in_ok-count.ensures.count told bytes shown)) all)
     (c.counted.ensures.hand w.0 w.1) in

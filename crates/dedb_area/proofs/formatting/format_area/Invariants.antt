@@ -1,6 +1,7 @@
-use Rattle.std.proofs.Common.{◌≡◌, ◌≢◌, ◌≤◌, ℕ}
+use Rattle.std.proofs.Common.{◌≢◌, ℕ}
 use Rattle.fp_site.specs.Disk.{IsDurable, Leaves}
 use Rattle.fp_site.specs.Site.{ReadsNothing}
+use Rattle.fp_lists.specs.Continued.{IsContinued}
 use Rattle.dedb_area.specs.Formatting.{IsStarted}
 use Rattle.dedb_area.specs.Keeping.{OnlyAreas}
 use Rattle.dedb_area.proofs.formatting.format_area.Given as goal
@@ -12,10 +13,7 @@ invariant-loop-ci g l = record {
   areas : g.T.Site.told l.initial.site → OnlyAreas (g.T.Site.disk l.initial.site) (g.T.Site.disk l.site);
   aside : g.T.Site.told l.initial.site → (k : ℕ) → k ≢ l.set → IsDurable (g.T.Site.disk l.initial.site) k
       → IsDurable (g.T.Site.disk l.site) k;
-  later : g.T.Site.faults l.initial.site ≤ g.T.Site.faults l.site;
-  told : g.T.Site.told l.initial.site → g.T.Site.told l.site;
-  holds : g.T.Site.holds l.site ≡ g.T.Site.holds l.initial.site;
-  keeps : (first : g.row.T.Denot) → g.T.Site.keeps first l.initial.site → g.T.Site.keeps first l.site;
+  continued : IsContinued g.T.Site.told g.T.Site.faults g.T.Site.holds g.T.Site.keeps l.initial.site l.site;
   reads : ReadsNothing (g.T.Site.tells_reads l.initial.site) (g.T.Site.tells_reads l.site)
       (g.T.Site.bytes_read l.initial.site) (g.T.Site.bytes_read l.site);
 }

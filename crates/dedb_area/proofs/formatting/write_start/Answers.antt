@@ -31,14 +31,14 @@ pub returns-in-Ok-clause-aside : goal.returns-in-Ok-clause-aside
 returns-in-Ok-clause-aside g c told k ne was =
     aside_torn c.args.set _ _ k (g.T.Site.disk c.args.site.now) (g.T.Site.disk c.write_at.new.self)
     (g.met.T.Site.lawful c.args.site.now told)
-    (g.met.T.Site.lawful c.write_at.new.self (c.write_at.ensures.told told)) (c.write_at.ensures.crash told)
+    (g.met.T.Site.lawful c.write_at.new.self (c.write_at.ensures.site.still_told told)) (c.write_at.ensures.crash told)
     (c.write_at.ensures.leaves told) ne was
 
 pub returns-clause-aside : goal.returns-clause-aside
 returns-clause-aside g c told k ne was =
     aside_torn c.args.set _ _ k (g.T.Site.disk c.args.site.now) (g.T.Site.disk c.write_at.new.self)
     (g.met.T.Site.lawful c.args.site.now told)
-    (g.met.T.Site.lawful c.write_at.new.self (c.write_at.ensures.told told)) (c.write_at.ensures.crash told)
+    (g.met.T.Site.lawful c.write_at.new.self (c.write_at.ensures.site.still_told told)) (c.write_at.ensures.crash told)
     (c.write_at.ensures.leaves told) ne was
 
 pub returns-in_err-interval-clause-areas : goal.returns-in_err-interval-clause-areas

@@ -1,11 +1,12 @@
 use Rattle.std.proofs.Common.{sym, subst}
 use Rattle.area_states.specs.Places.{ArePlaces, IsPlace}
-use Rattle.dedb_area.proofs.Defined.{defined_place, places_more}
+use Rattle.dedb_area.proofs.Defined.{places_more}
 use Rattle.dedb_area.proofs.opening.add_place.Goals as goal
+use Rattle.area_laws.proofs.DefLemmas.{is_place}
 
 pub returns-clause-sized : goal.returns-clause-sized
 returns-clause-sized c = λ all.
-    let is = subst IsPlace (sym c.in_ok-place.ensures) (defined_place c.args.def.now (record {
+    let is = subst IsPlace (sym c.in_ok-place.ensures) (is_place c.args.def.now (record {
       dedb = c.args.dedb;
       number = c.args.number;
       first_anchor = c.args.first_anchor;

@@ -4,13 +4,13 @@ use Rattle.std.proofs.lemmas.Result.{err_from_is_err_and}
 use Rattle.ci_space.specs.Head.{ends_of}
 use Rattle.ci_space.specs.Interval.{IsInterval, kind_of}
 use Rattle.ci_overflow.specs.Places.{first_independent}
-use Rattle.root_anchor.proofs.Exits.{same_fault}
 use Rattle.area_states.specs.Places.{counted_by}
 use Rattle.dedb_area.proofs.AnchorLemmas.{some_counted, still_shown}
 use Rattle.area_staging.proofs.Looks.{looks_then}
 use Rattle.dedb_area.specs.Control.{AreEnds}
 use Rattle.dedb_area.proofs.StagedPurge.{by_none, by_some, control_is, may_be, not_past}
 use Rattle.dedb_area.proofs.purging.control_purged.Goals as goal
+use Rattle.plain_laws.proofs.Results.{same_fault}
 
 pub returns-then-is_none-clause-damaged : goal.returns-then-is_none-clause-damaged
 returns-then-is_none-clause-damaged g c = λ told bytes shown s at e may.
@@ -39,7 +39,8 @@ returns-in_err-new-clause-damaged g c = λ told bytes shown s at e may.
     ∙ shown.newest 0 (some_counted place (bytes 0)) in
     let count = c.in-Some.ensures.some ∙ ap (counted_by (Some place)) same in
     let p = err_from_is_err_and c.from_residual-in_err-new.result c.from_residual-in_err-new.ensures.1 in
-    c.in_err-new.ensures.damaged (looks.tells told) bytes shown1 count s at (same_fault _ _ _ _ p.1 p.2 e)
+    c.in_err-new.ensures.damaged (looks.continued.still_told told) bytes shown1 count s at
+    (same_fault _ _ _ _ p.1 p.2 e)
     (control_is place bytes may)
 
 pub returns-in_err-new-clause-first : goal.returns-in_err-new-clause-first
@@ -63,7 +64,7 @@ returns-clause-purged g c = λ told bytes shown.
     let same = c.in_ok-old.ensures.newest told shown.told.clean shown.told.sizes
     ∙ shown.newest 0 (some_counted place (bytes 0)) in
     let count = c.in-Some.ensures.some ∙ ap (counted_by (Some place)) same in
-    c.in_ok-new.ensures.purged (looks.tells told) bytes shown1 count
+    c.in_ok-new.ensures.purged (looks.continued.still_told told) bytes shown1 count
 
 pub returns-clause-looks : goal.returns-clause-looks
 returns-clause-looks g c =

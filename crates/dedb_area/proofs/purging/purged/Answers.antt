@@ -6,9 +6,10 @@ use Rattle.fp_lists.specs.Faults.{Rose}
 use Rattle.seq_dependents.specs.Control.{IsControl}
 use Rattle.area_staging.specs.Looking.{LooksAt}
 use Rattle.area_staging.specs.Staging.{kept_itself, staged_area}
-use Rattle.dedb_area.proofs.AnchorLemmas.{by_ok, fresh_area, fresh_told, kept_of_equals, some_counted}
+use Rattle.dedb_area.proofs.AnchorLemmas.{fresh_area, fresh_told, kept_of_equals, some_counted}
 use Rattle.dedb_area.proofs.Purges.{control_after, control_before, purged_given}
 use Rattle.dedb_area.proofs.purging.purged.Goals as goal
+use Rattle.plain_laws.proofs.Results.{if_ok_with}
 
 pub returns-clause-purged : goal.returns-clause-purged
 returns-clause-purged g c = λ told bytes shown count.
@@ -127,6 +128,6 @@ returns-clause-size g c =
       kept_itself g.T.Site.told g.T.Site.disk g.T.Site.faults g.T.Site.holds g.T.Site.keeps g.T.Site.tells_reads
           g.T.Site.bytes_read q.set q.size q.count s q.pool.now (get nat_cmp q.staged),
     ) in
-    by_ok c.control_of-control.result (λ o. o ≡ get nat_cmp n.staged 0)
+    if_ok_with c.control_of-control.result (λ o. o ≡ get nat_cmp n.staged 0)
     (λ o. (i : List ℕ) → o ≡ Some i → length i ≡ c.args.place.now.shape.ci) c.control_of-control.ensures.same
     (λ o same i is. (n.fit 0 i (sym same ∙ is)).1 ∙ kept.3 ∙ e.size)

@@ -6,8 +6,10 @@ use Rattle.dli_tree.specs.Paths.{steps_of}
 use Rattle.dedb_calls.specs.Anchors.{is_anchor_of}
 use Rattle.dedb_calls.specs.inside.Anchors.{IsEdited}
 use Rattle.dedb_calls.specs.declared.anchors.HeldAnchor.{HeldAnchor}
-use Rattle.dedb_calls.proofs.AnchorLemmas.{edited_there, found_there, none_there, not_held, on_err, set_itself, some_is}
+use Rattle.dedb_calls.proofs.AnchorLemmas.{edited_there, found_there, none_there, not_held, set_itself}
 use Rattle.dedb_calls.proofs.anchors.edit.Goals as goal
+use Rattle.plain_laws.proofs.Results.{at_err}
+use Rattle.std.proofs.lemmas.Option.{same_Some}
 
 pub returns-then-not-is_there-clause-ok : goal.returns-then-not-is_there-clause-ok
 returns-then-not-is_there-clause-ok c up a at =
@@ -19,7 +21,7 @@ returns-then-not-is_there-clause-ok c up a at =
 
 pub returns-in_err-edit_one-clause-err : goal.returns-in_err-edit_one-clause-err
 returns-in_err-edit_one-clause-err c =
-    on_err c.from_residual.result _
+    at_err c.from_residual.result _
     (ap (λ (x : HeldAnchor). slice_set c.args.held.now c.place_of-at.result x) c.in_err-edit_one.ensures.err
     ∙ set_itself c.args.held.now c.place_of-at.result c.item_mut.result.now c.item_mut.ensures.value)
 
@@ -31,8 +33,8 @@ returns-clause-ok c up a at good =
     let x : HeldAnchor = c.item_mut.result.now in
     let here : slice_get c.args.held.now c.place_of-at.result ≡ Some f.0 =
     subst (λ (zs : List HeldAnchor). slice_get zs c.place_of-at.result ≡ Some f.0) c.as_slice-items.ensures f.1 in
-    let x_is : x ≡ f.0 = some_is x f.0 (sym c.item_mut.ensures.value ∙ here) in
-    let a_is : f.0 ≡ a = some_is f.0 a (sym f.3 ∙ at) in
+    let x_is : x ≡ f.0 = same_Some x f.0 (sym c.item_mut.ensures.value ∙ here) in
+    let a_is : f.0 ≡ a = same_Some f.0 a (sym f.3 ∙ at) in
     let same : x ≡ a = x_is ∙ a_is in
     let order : are_in_order c.args.segments.now x.roots ≡ true =
     subst (λ (z : HeldAnchor). are_in_order c.args.segments.now z.roots ≡ true) (sym same) good in

@@ -1,7 +1,7 @@
 use Rattle.std.proofs.Common.{◌∙◌, sym}
-use Rattle.dedb_calls.proofs.AnchorLemmas.{some_is}
 use Rattle.dedb_calls.proofs.CallLemmas.{comes_at, fits_at, fits_call_at, goes_at, shows_at, stays_work}
 use Rattle.dedb_calls.proofs.calls.answer.Goals as goal
+use Rattle.std.proofs.lemmas.Option.{same_Some}
 
 pub answer-requires-clause-fits : goal.answer-requires-clause-fits
 answer-requires-clause-fits g c =
@@ -20,7 +20,7 @@ returns-clause-comes g c def at =
     comes_at c.answer.result c.database_of-database.result.def.now def c.database_of-database.result.number
     c.args.number (g.L.AnchorLocks.modes c.args.locks.now c.args.work.now) c.args.call.now c.args.work.now
     c.answer.new.work
-    (some_is c.database_of-database.result.def.now def (sym c.database_of-database.ensures.there ∙ at))
+    (same_Some c.database_of-database.result.def.now def (sym c.database_of-database.ensures.there ∙ at))
     c.database_of-database.ensures.number c.answer.ensures.comes
 
 pub returns-clause-of : goal.returns-clause-of
@@ -36,5 +36,5 @@ pub returns-clause-shown : goal.returns-clause-shown
 returns-clause-shown g c def at =
     shows_at c.answer.result c.database_of-database.result.def.now def c.database_of-database.result.number
     c.args.number c.args.call.now
-    (some_is c.database_of-database.result.def.now def (sym c.database_of-database.ensures.there ∙ at))
+    (same_Some c.database_of-database.result.def.now def (sym c.database_of-database.ensures.there ∙ at))
     c.database_of-database.ensures.number c.answer.ensures.shown

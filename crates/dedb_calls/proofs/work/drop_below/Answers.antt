@@ -5,21 +5,21 @@ use Rattle.std.proofs.lemmas.Fn.{filter_same}
 use Rattle.fp_model.specs.Order.{Place, Step}
 use Rattle.fp_model.specs.Texts.{same_text}
 use Rattle.dli_tree.specs.declared.path.Step.{Step as StepOf}
-use Rattle.dedb_calls.proofs.AnchorLemmas.{some_is}
 use Rattle.dedb_calls.proofs.ArgumentLemmas.{first_step, first_there, steps_long}
 use Rattle.dedb_calls.proofs.EditLemmas.{none_goes, those_go}
 use Rattle.dedb_calls.proofs.work.drop_below.Goals as goal
+use Rattle.std.proofs.lemmas.Option.{same_Some}
 
 pub returns-then-steps-ne1 : goal.returns-then-steps-ne1
 returns-then-steps-ne1 c def at its =
-    let same = some_is c.in-Some.place.now at (sym (ap option_copied c.in-Some.is) ∙ its) in
+    let same = same_Some c.in-Some.place.now at (sym (ap option_copied c.in-Some.is) ∙ its) in
     let path = c.steps-steps.ensures ∙ ap (λ (p : Place). p.path) same in
     let long = ap length (sym path) ∙ steps_long c.steps-steps.result.now in
     none_goes def c.args.dedb at c.args.inserts.now.items (λ e. c.if-steps-ne1.true (sym long ∙ e))
 
 pub returns : goal.returns
 returns c def at its =
-    let same = some_is c.in-Some.place.now at (sym (ap option_copied c.in-Some.is) ∙ its) in
+    let same = same_Some c.in-Some.place.now at (sym (ap option_copied c.in-Some.is) ∙ its) in
     let path = c.steps-steps.ensures ∙ ap (λ (p : Place). p.path) same in
     let long = ap length (sym path) ∙ steps_long c.steps-steps.result.now in
     let least : 1 ≤ length c.steps-steps.result.now = omega (arith, c.if-steps-ne1.false) in

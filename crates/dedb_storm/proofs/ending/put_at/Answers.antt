@@ -8,9 +8,9 @@ use Rattle.fp_model.specs.Order.{sequential_type}
 use Rattle.fp_model.specs.Shape.{are_newest_first, has_length, is_anchor}
 use Rattle.dli_tree.specs.InOrder.{any_ends}
 use Rattle.dedb_calls.proofs.ArgumentLemmas.{indexed}
-use Rattle.dedb_storm.proofs.Benches.{some_is}
 use Rattle.dedb_storm.proofs.Endings.{in_place, passes_with}
 use Rattle.dedb_storm.proofs.ending.put_at.Goals as goal
+use Rattle.std.proofs.lemmas.Option.{same_Some}
 
 pub returns : goal.returns
 returns c anchor e =
@@ -19,7 +19,7 @@ returns c anchor e =
     let here = indexed c.args.roots.now c.as_slice-2.result.now c.index-as_slice-at.result c.args.at c.args.at
     c.as_slice-2.ensures refl c.index-as_slice-at.is c.requires in
     let same : c.index-as_slice-at.result ≡ root =
-    some_is c.index-as_slice-at.result root (sym here ∙ c.item_mut.ensures.value) in
+    same_Some c.index-as_slice-at.result root (sym here ∙ c.item_mut.ensures.value) in
     let newer = subst (λ (items : List SeqItem). are_newest_first 0 (2 ^ 64) items ≡ true
     → are_newest_first 0 c.args.serial items ≡ true)
     (c.as_slice-3.ensures ∙ ap (λ (r : Root). r.seqs) (sym c.index-as_slice-at.is ∙ same)) (c.if-not-is_newer.ensures refl) in

@@ -1,8 +1,9 @@
 use Rattle.std.proofs.Common.{◌≡◌, ℕ, ◌-◌, [], ◌∷◌, ◌++◌, ◌∙◌, sym, ap, subst, refl, take, get_or, arith}
 use Rattle.fp_model.specs.Texts.{trimmed}
-use Rattle.def_tables.proofs.TrimLemmas.{trimmed-blank, trimmed-other, take-last}
 use Rattle.def_tables.proofs.names.without_blanks.Goals as goal
 use Rattle.def_tables.proofs.names.without_blanks.Goals.{then-loop-end-test+else-text-end-eq32, else-loop-end-test}
+use Rattle.plain_laws.proofs.Lists.{take-last}
+use Rattle.model_laws.proofs.Texts.{trimmed-blank, trimmed-other}
 
 pub loop-end-preserved : goal.loop-end-preserved
 loop-end-preserved c =

@@ -8,10 +8,11 @@ use Rattle.fp_model.specs.FitCalls.{FitsAnswerOf}
 use Rattle.dli_calls.specs.Readiness.{IfAnswer}
 use Rattle.dli_calls.specs.Targets.{IfDedb, LeavesOthers}
 use Rattle.dli_calls.proofs.AnswerLemmas.{any_answer, if_answer}
-use Rattle.dli_calls.proofs.BeginLemmas.{if_ok}
-use Rattle.dedb_calls.proofs.TargetLemmas.{dedb_looks, dedb_needs, dedb_replies, within_at}
+use Rattle.dedb_calls.proofs.TargetLemmas.{dedb_looks, dedb_needs, dedb_replies}
 use Rattle.dli_calls.proofs.TargetLemmas.{dedb_fits, names_dedb}
 use Rattle.dli_calls.proofs.answering.answer.Goals as goal
+use Rattle.plain_laws.proofs.Results.{if_ok_then}
+use Rattle.std.proofs.lemmas.Option.{slice_get_within}
 
 pub returns-then-at-msdb_count-clause-answer : goal.returns-then-at-msdb_count-clause-answer
 returns-then-at-msdb_count-clause-answer g c db same sees = c.answer_msdb.ensures.answer db same
@@ -21,7 +22,7 @@ answer_dedb-requires-clause-number g c =
     let it = (names_dedb c.args.defs.now c.args.call.now c.args.work.now c.database_of-number.result c.from-at.result
     c.len-msdb_count.result _ c.database_of-number.ensures c.from-at.ensures c.len-msdb_count.ensures
     c.if-at-msdb_count.false refl c.requires.call) in
-    within_at c.args.defs.now.dedbs _ it.def it.there
+    slice_get_within c.args.defs.now.dedbs _ it.def it.there
 
 pub answer_dedb-requires-clause-call : goal.answer_dedb-requires-clause-call
 answer_dedb-requires-clause-call g c =
@@ -44,7 +45,7 @@ returns-else-at-msdb_count-clause-need g c db same sees =
     c.len-msdb_count.result _ c.database_of-number.ensures c.from-at.ensures c.len-msdb_count.ensures
     c.if-at-msdb_count.false refl c.requires.call) in
     let has = subst (λ (t : Target). IfDedb t (Sees db c.args.work.now.anchors)) it.target sees in
-    if_ok c.answer_dedb.result (c.answer_dedb.ensures.need it.def db it.there has)
+    if_ok_then c.answer_dedb.result (c.answer_dedb.ensures.need it.def db it.there has)
     (λ came is. is ∙ sym (dedb_needs c.args.defs.now c.args.call.now _ it db c.args.work.now.own
     ((standing c.args.locks.now).holds c.args.region)))
 
@@ -54,7 +55,7 @@ returns-else-at-msdb_count-clause-answer g c db same sees =
     c.len-msdb_count.result _ c.database_of-number.ensures c.from-at.ensures c.len-msdb_count.ensures
     c.if-at-msdb_count.false refl c.requires.call) in
     let has = subst (λ (t : Target). IfDedb t (Sees db c.args.work.now.anchors)) it.target sees in
-    if_ok c.answer_dedb.result (c.answer_dedb.ensures.answer it.def db it.there has)
+    if_ok_then c.answer_dedb.result (c.answer_dedb.ensures.answer it.def db it.there has)
     (λ came is. if_answer _ _ came is
     (λ answer so. dedb_replies c.args.defs.now c.args.call.now _ it db db c.args.work.now.own ∙ so))
 

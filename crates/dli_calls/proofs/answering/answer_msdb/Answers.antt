@@ -10,9 +10,9 @@ use Rattle.dli_calls.specs.Readiness.{IfAnswer}
 use Rattle.dli_calls.specs.inside.Replies.{ShowsFound, segments_in}
 use Rattle.dli_calls.specs.Targets.{FitsWork}
 use Rattle.dli_calls.proofs.AnswerLemmas.{fits_answer, if_answer, looks, names_it, needs, replies, target}
-use Rattle.dli_calls.proofs.BeginLemmas.{if_ok}
 use Rattle.dli_calls.proofs.WorkLemmas.{position_fits, positions_within}
 use Rattle.dli_calls.proofs.answering.answer_msdb.Goals as goal
+use Rattle.plain_laws.proofs.Results.{if_ok_then}
 
 pub ready-requires-clause-positions : goal.ready-requires-clause-positions
 ready-requires-clause-positions c =
@@ -43,7 +43,7 @@ returns-clause-on c = (
 
 pub returns-clause-need : goal.returns-clause-need
 returns-clause-need c =
-    λ db same. if_ok c.ready.result c.ready.ensures.need
+    λ db same. if_ok_then c.ready.result c.ready.ensures.need
     (λ ready is. is ∙ sym (needs c.args.defs.now c.args.call.now _ _ (names_it _ _ _ _ (c.database_for-database.ensures.number ∙ c.requires.named)
     c.database_for-database.ensures.def) db c.args.work.now.own
     ((standing c.args.locks.now).holds c.args.region)))
@@ -57,7 +57,7 @@ returns-clause-answer c =
     let stored : c.args.msdbs.now.msdbs ≡ database.store.now.msdbs =
     ap (λ store. store.msdbs) (sym c.database_for-database.ensures.store) in
     let replied : Answer → Replied = λ answer. record { answer = answer; own = c.ready.new.work.own } in
-    if_ok c.ready.result c.ready.ensures.answer (λ ready is.
+    if_ok_then c.ready.result c.ready.ensures.answer (λ ready is.
     if_answer (λ answer. msdb_reply database.def.now database.number segments segments own c.args.call.now ≡ replied
     answer)
     (λ answer. reply_to c.args.defs.now db db own c.args.call.now ≡ replied answer) ready is
@@ -70,7 +70,7 @@ returns-clause-notes c =
     let database = c.database_for-database.result in
     let own = c.args.work.now.own in
     let notes = c.args.work.now.notes in
-    if_ok c.ready.result c.ready.ensures.notes (λ ready is.
+    if_ok_then c.ready.result c.ready.ensures.notes (λ ready is.
     if_answer (λ answer. c.ready.new.work.notes ≡ (if msdb_looks database.def.now database.number own c.args.call.now
     then notes ++ c.args.count ∷ [] else notes))
     (λ answer. c.ready.new.work.notes ≡ (if looks_unheld c.args.defs.now own c.args.call.now then notes ++ c.args.count
@@ -86,7 +86,7 @@ returns-clause-shown c =
     subst (λ (t : Target). IfOk c.ready.result (λ came. IfAnswer came (FitsAnswerOf t c.args.call.now)))
     (sym (target c.args.defs.now c.args.call.now _ _ (names_it _ _ _ _ (c.database_for-database.ensures.number ∙ c.requires.named)
     c.database_for-database.ensures.def)))
-    (if_ok c.ready.result c.ready.ensures.shown (λ came is.
+    (if_ok_then c.ready.result c.ready.ensures.shown (λ came is.
     if_answer (ShowsFound def c.args.call.now) (FitsAnswerOf (OnMsdb def number) c.args.call.now) came is
     (λ answer shows. fits_answer c.args.call.now number def answer shows)))
 

@@ -5,13 +5,15 @@ use Rattle.fp_model.specs.Order.{root_key}
 use Rattle.dli_tree.specs.Changes.{edit_of}
 use Rattle.dli_tree.specs.Paths.{step_of, steps_of}
 use Rattle.dli_tree.specs.declared.place.Place.TheVariants.{Lacks, Stands}
-use Rattle.dli_tree.proofs.Editing.{anchor_end, anchor_goes, change_lacks, change_stands, on_err_with, on_ok_with, placed_in, root_changed, same_set, twin_there}
+use Rattle.dli_tree.proofs.Editing.{anchor_end, anchor_goes, change_lacks, change_stands, placed_in, root_changed, twin_there}
 use Rattle.dli_tree.proofs.Roots.{root_shape, roots_ascend, shaped}
 use Rattle.dli_tree.proofs.edit.edit_below.Goals as goal
+use Rattle.plain_laws.proofs.Results.{on_err_by, on_ok_by}
+use Rattle.plain_laws.proofs.Places.{set_same}
 
 pub returns-then-is_empty-clause-ok : goal.returns-then-is_empty-clause-ok
 returns-then-is_empty-clause-ok c order =
-    on_ok_with _ _ c.edit_root.result (λ is. is ∙ anchor_end c.args.segments.now (edit_of c.args.change)
+    on_ok_by _ _ c.edit_root.result (λ is. is ∙ anchor_end c.args.segments.now (edit_of c.args.change)
     (step_of c.args.step.now) c.args.rest.now c.args.roots.now (sym c.is_empty.ensures ∙ c.if-is_empty.true))
     (c.edit_root.ensures.ok (roots_ascend c.args.segments.now c.args.roots.now order))
 
@@ -33,7 +35,7 @@ returns-in-Stands-clause-ok c order =
     ) in
     let below = (shaped types r (root_shape types roots at r order lt
     (twin_there roots at r c.item_mut.ensures.value))).rows in
-    on_ok_with _ _ c.edit_rows.result (λ is. ap (λ (rows : List (List Node)). slice_set roots at
+    on_ok_by _ _ c.edit_rows.result (λ is. ap (λ (rows : List (List Node)). slice_set roots at
     (record r { children = rows })) is
     ∙ change_stands key c.args.step.now.key (root_changed types edit (steps_of c.args.rest.now)) roots at r up place
     c.item_mut.ensures.value
@@ -43,9 +45,9 @@ returns-in-Stands-clause-ok c order =
 pub returns-in-Stands-clause-err : goal.returns-in-Stands-clause-err
 returns-in-Stands-clause-err c =
     let r = c.item_mut.result.now in
-    on_err_with _ _ c.edit_rows.result (λ is. ap (λ (rows : List (List Node)). slice_set c.args.roots.now c.in-Stands.at
+    on_err_by _ _ c.edit_rows.result (λ is. ap (λ (rows : List (List Node)). slice_set c.args.roots.now c.in-Stands.at
     (record r { children = rows })) is
-    ∙ same_set c.args.roots.now c.in-Stands.at r c.item_mut.ensures.value) c.edit_rows.ensures.err
+    ∙ set_same c.args.roots.now c.in-Stands.at r c.item_mut.ensures.value) c.edit_rows.ensures.err
 
 pub returns-in-Lacks-clause-ok : goal.returns-in-Lacks-clause-ok
 returns-in-Lacks-clause-ok c order =

@@ -6,8 +6,8 @@ use Rattle.fp_model.specs.declared.definitions.SegDef.{SegDef}
 use Rattle.dli_tree.specs.InOrder.{are_in_order}
 use Rattle.dli_tree.specs.Paths.{steps_of}
 use Rattle.dli_tree.proofs.Roots.{none_answer, whole_answer}
-use Rattle.dli_tree.proofs.Rows.{ok_with}
 use Rattle.dli_tree.proofs.first.first_after.Goals as goal
+use Rattle.plain_laws.proofs.Results.{if_ok_by}
 
 pub returns-then-not-can_be_met : goal.returns-then-not-can_be_met
 returns-then-not-can_be_met c order =
@@ -25,7 +25,7 @@ returns c order =
     subst (λ (t : List SegDef). are_in_order t c.args.roots.now ≡ true) (sym c.as_slice-segments.ensures) order in
     let in_order : are_in_order more others ≡ true =
     subst (λ (r : List Root). are_in_order more r ≡ true) (sym c.as_slice.ensures) first in
-    ok_with _ _ c.in_roots.result (λ r is. is ∙ whole_answer types more c.args.roots.now others c.args.ssas.now
+    if_ok_by _ _ c.in_roots.result (λ r is. is ∙ whole_answer types more c.args.roots.now others c.args.ssas.now
     c.as_slice-ssas.result.now (option_copied c.args.position) (option_copied c.args.within)
     (option_map steps_of (option_copied c.steps_of.result)) (option_map steps_of (option_copied c.steps_of-2.result))
     c.as_slice-segments.ensures c.as_slice.ensures c.as_slice-ssas.ensures c.steps_of.ensures c.steps_of-2.ensures

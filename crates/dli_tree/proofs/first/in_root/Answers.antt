@@ -3,8 +3,8 @@ use Rattle.std.specs.Prelude.{option_map}
 use Rattle.fp_model.specs.Order.{direct, key_in, one_down}
 use Rattle.dli_tree.specs.inside.Aims.{aim_of}
 use Rattle.dli_tree.proofs.Roots.{root_none, root_some}
-use Rattle.dli_tree.proofs.Rows.{ok_with}
 use Rattle.dli_tree.proofs.first.in_root.Goals as goal
+use Rattle.plain_laws.proofs.Results.{if_ok_by}
 
 pub returns-in-None : goal.returns-in-None
 returns-in-None c shape =
@@ -18,5 +18,5 @@ returns-in_ok-found-in-Some c shape =
     let whole = root_some c.args.segments.now (aim_of c.args.aim) c.args.root.now key c.enter.result c.in-Some.below
     same c.enter.ensures c.in-Some.is in
     let found = c.in_ok-found-in-Some.ensures shape in
-    ok_with _ _ c.all_under.result (λ r is. is ∙ ap (option_map (one_down (direct 0 key))) found ∙ whole)
+    if_ok_by _ _ c.all_under.result (λ r is. is ∙ ap (option_map (one_down (direct 0 key))) found ∙ whole)
     c.all_under.ensures

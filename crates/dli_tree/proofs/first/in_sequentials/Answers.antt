@@ -5,7 +5,7 @@ use Rattle.fp_model.specs.Order.{dependent}
 use Rattle.dli_tree.specs.inside.Aims.{aim_of, looks_for}
 use Rattle.dli_tree.specs.Paths.{occurrence_of}
 use Rattle.dli_tree.proofs.Roots.{alone, one_none, one_some, seqs_are}
-use Rattle.dli_tree.proofs.Rows.{found_here, found_next, none_from, ok_with, skipped}
+use Rattle.dli_tree.proofs.Rows.{found_here, found_next, none_from, skipped}
 use Rattle.dli_tree.proofs.first.in_sequentials.Goals as goal
 
 pub loop-at-init : goal.loop-at-init

@@ -5,8 +5,9 @@ use Rattle.fp_model.specs.Order.{numbered}
 use Rattle.dli_tree.specs.inside.Aims.{aim_of}
 use Rattle.dli_tree.specs.Paths.{steps_of}
 use Rattle.dli_tree.proofs.Reaching.{opened}
-use Rattle.dli_tree.proofs.Roots.{not_inside, some_first}
+use Rattle.dli_tree.proofs.Roots.{not_inside}
 use Rattle.dli_tree.proofs.first.newest_left.Goals as goal
+use Rattle.plain_laws.proofs.Lists.{some_first}
 
 pub returns-then-not-is_empty-clause-left : goal.returns-then-not-is_empty-clause-left
 returns-then-not-is_empty-clause-left c newest i d lt =

@@ -6,8 +6,10 @@ use Rattle.fp_model.specs.Order.{Occurrence, child_types, direct, is_child_of, k
 use Rattle.dli_tree.specs.inside.Aims.{aim_of, looks_for}
 use Rattle.dli_tree.specs.Paths.{occurrence_of}
 use Rattle.dli_tree.proofs.Lines.{child_above}
-use Rattle.dli_tree.proofs.Rows.{IsLeftOf, all_below, is_left, row_answer, at_place, first_shape, found_from, found_here, found_next, kinds_end, kinds_from, kinds_next, kinds_other, no_kinds, no_rows, node_none, node_some, none_from, none_left, none_reached, ok_with, opened_list, row_ascends, row_found, row_next, rows_left, rows_shape, skipped, twin_shape}
+use Rattle.dli_tree.proofs.Rows.{IsLeftOf, all_below, is_left, row_answer, first_shape, found_from, found_here, found_next, kinds_end, kinds_from, kinds_next, kinds_other, no_kinds, no_rows, node_none, node_some, none_from, none_left, none_reached, opened_list, row_ascends, row_found, row_next, rows_left, rows_shape, skipped, twin_shape}
 use Rattle.dli_tree.proofs.search.+searches.Goals as goal
+use Rattle.plain_laws.proofs.Places.{stands_at}
+use Rattle.plain_laws.proofs.Results.{if_ok_by}
 
 pub in_node-returns-in-None : goal.in_node-returns-in-None
 in_node-returns-in-None t c shape =
@@ -22,7 +24,7 @@ in_node-returns-in_ok-found-in-Some t c shape =
     let whole = node_some c.args.segments.now (aim_of c.args.aim) c.args.segment c.args.node.now key c.enter.result
     c.in-Some.below same c.enter.ensures c.in-Some.is in
     let found = c.in_ok-found-in-Some.ensures (rows_shape c.args.segments.now c.args.segment c.args.node.now shape) in
-    ok_with _ _ c.all_under.result (λ r is. is ∙ ap (option_map (one_down (direct c.args.segment key))) found ∙ whole)
+    if_ok_by _ _ c.all_under.result (λ r is. is ∙ ap (option_map (one_down (direct c.args.segment key))) found ∙ whole)
     c.all_under.ensures
 
 pub in_row-returns-then-not-leads_on : goal.in_row-returns-then-not-leads_on
@@ -74,7 +76,7 @@ in_rows-in_row-requires t c =
     let types = c.args.segments.now in
     let lt : c.loop-child.child < length types = omega arith in
     let above = child_above types c.requires.types.places c.args.parent c.loop-child.child c.index-segments-child.result
-    (at_place types c.loop-child.child c.index-segments-child.result lt c.index-segments-child.is)
+    (stands_at types c.loop-child.child c.index-segments-child.result lt c.index-segments-child.is)
     (sym c.is_direct_child.ensures ∙ c.if-not-is_direct_child.false) in
     (omega (arith, c.decreases, above, lt, c.requires.types.few), (c.requires.types, lt))
 

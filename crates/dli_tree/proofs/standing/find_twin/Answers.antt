@@ -5,8 +5,9 @@ use Rattle.dli_tree.specs.Paths.{step_of}
 use Rattle.dli_tree.specs.declared.place.Place.TheVariants.{Lacks, Stands}
 use Rattle.key_order.proofs.Ascending.{stands_there}
 use Rattle.dli_tree.proofs.Editing.{find_lacks, find_stands, placed_in, row_shape, twin_in_row, twin_no_kind, twin_no_row, twin_there}
-use Rattle.dli_tree.proofs.Rows.{at_place, row_ascends, rows_shape, twin_shape}
+use Rattle.dli_tree.proofs.Rows.{row_ascends, rows_shape, twin_shape}
 use Rattle.dli_tree.proofs.standing.find_twin.Goals as goal
+use Rattle.plain_laws.proofs.Places.{stands_at}
 
 pub returns-in-None-clause-found : goal.returns-in-None-clause-found
 returns-in-None-clause-found c shape = twin_no_kind c.args.segments.now c.args.parent (step_of c.args.step.now)
@@ -22,7 +23,7 @@ returns-in-Stands-clause-found c shape =
     let type = c.args.step.now.segment in
     let rows = c.args.rows.now in
     let row = c.index-rows-at.result in
-    let there = at_place rows c.in-Some.at row (omega arith) c.index-rows-at.is in
+    let there = stands_at rows c.in-Some.at row (omega arith) c.index-rows-at.is in
     let good = row_shape types c.args.parent type c.in-Some.at c.row_of.result rows row c.row_of.ensures c.in-Some.is
     there shape in
     let up = row_ascends types type row good in
@@ -40,7 +41,7 @@ returns-in-Stands-clause-found c shape =
     c.as_slice-twins.ensures c.as_slice.ensures c.in-Stands.ensures.place up in
     twin_in_row types c.args.parent (step_of c.args.step.now) rows c.row_of.result c.in-Some.at row (Some n)
     c.row_of.ensures c.in-Some.is there (find_stands key c.args.step.now.key row at n up place
-    (at_place row at n lt is))
+    (stands_at row at n lt is))
 
 pub returns-in-Stands-clause-shape : goal.returns-in-Stands-clause-shape
 returns-in-Stands-clause-shape c shape =
@@ -48,7 +49,7 @@ returns-in-Stands-clause-shape c shape =
     let type = c.args.step.now.segment in
     let rows = c.args.rows.now in
     let row = c.index-rows-at.result in
-    let there = at_place rows c.in-Some.at row (omega arith) c.index-rows-at.is in
+    let there = stands_at rows c.in-Some.at row (omega arith) c.index-rows-at.is in
     let good = row_shape types c.args.parent type c.in-Some.at c.row_of.result rows row c.row_of.ensures c.in-Some.is
     there shape in
     let n = c.index-twins-place.result in
@@ -68,7 +69,7 @@ returns-in-Lacks-clause-found c shape =
     let type = c.args.step.now.segment in
     let rows = c.args.rows.now in
     let row = c.index-rows-at.result in
-    let there = at_place rows c.in-Some.at row (omega arith) c.index-rows-at.is in
+    let there = stands_at rows c.in-Some.at row (omega arith) c.index-rows-at.is in
     let good = row_shape types c.args.parent type c.in-Some.at c.row_of.result rows row c.row_of.ensures c.in-Some.is
     there shape in
     let up = row_ascends types type row good in

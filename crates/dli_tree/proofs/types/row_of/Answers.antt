@@ -1,8 +1,9 @@
 use Rattle.std.proofs.Common.{◌≡◌, ℕ, ◌+◌, ◌==◌, ◌&&◌, not, drop, length, sym, ◌∙◌, ap, arith}
 use Rattle.fp_model.specs.Order.{is_child_of}
-use Rattle.dli_tree.proofs.Positions.{is_equal, is_other, place_end, place_found, place_from, place_init, place_next, place_other}
+use Rattle.dli_tree.proofs.Positions.{place_end, place_found, place_from, place_init, place_next, place_other}
 use Rattle.dli_tree.proofs.types.row_of.Goals as goal
 use Rattle.dli_tree.proofs.types.row_of.Goals.{then-is_direct_child+else-child-from, else-is_direct_child}
+use Rattle.plain_laws.proofs.Numbers.{other_number, same_number}
 
 pub loop-child-init : goal.loop-child-init
 loop-child-init c = (
@@ -21,7 +22,7 @@ loop-child-preserved c =
                 c.loop-child.row c.loop-child.child c.args.segments.now c.index-segments-child.result
                 c.loop-child-test.true c.index-segments-child.is
                 (sym c.is_direct_child.ensures ∙ w.if-is_direct_child.true)
-                (is_other c.loop-child.child c.args.segment (λ e. w.if-child-from.false (e ∙ sym w.from.ensures)))
+                (other_number c.loop-child.child c.args.segment (λ e. w.if-child-from.false (e ∙ sym w.from.ensures)))
                 ∙ ap (λ (n : ℕ). place_from (λ t. t == c.args.segment)
                 (λ def. is_child_of c.args.parent def && not def.sequential) n (c.loop-child.child + 1)
                 c.args.segments.now) (sym row),
@@ -46,7 +47,7 @@ returns-then-child-from c =
     (λ def. is_child_of c.args.parent def && not def.sequential) c.loop-child.row c.loop-child.child
     c.args.segments.now c.index-segments-child.result c.loop-child-test.true c.index-segments-child.is
     (sym c.is_direct_child.ensures ∙ c.if-is_direct_child.true)
-    (is_equal c.loop-child.child c.args.segment (c.if-child-from.true ∙ c.from.ensures)))
+    (same_number c.loop-child.child c.args.segment (c.if-child-from.true ∙ c.from.ensures)))
 
 pub returns : goal.returns
 returns c =

@@ -3,8 +3,9 @@ use Rattle.std.proofs.lemmas.List.{length-map}
 use Rattle.fp_model.specs.Fsas.{Fsa, fsa_text, list_text}
 use Rattle.fld_calls.specs.declared.arguments.Fsa.{Fsa as Argument}
 use Rattle.fld_calls.specs.Forms.{form_of, forms}
-use Rattle.fld_calls.proofs.WriteLemmas.{text-step, from-item}
+use Rattle.fld_calls.proofs.WriteLemmas.{text-step}
 use Rattle.fld_calls.proofs.layout.write_list.Goals as goal
+use Rattle.plain_laws.proofs.Places.{rest_at}
 
 pub loop-fsa-preserved : goal.loop-fsa-preserved
 loop-fsa-preserved c =
@@ -12,7 +13,7 @@ loop-fsa-preserved c =
     let i = c.loop-fsa.fsa-index in
     let a : Argument = c.fsa-item.result in
     let text = c.loop-fsa.text in
-    let here = from-item xs i a c.loop-fsa-test.true c.fsa-item.is in
+    let here = rest_at xs i a c.loop-fsa-test.true c.fsa-item.is in
     let left : length (drop (i + 1) xs) ≡ c.loop-fsa.left - 1 =
     omega (arith, length-drop (i + 1) xs, c.loop-fsa.invariant.many, c.loop-fsa-test.true) in
     let step = text-step text (form_of a) (forms (drop (i + 1) xs)) (c.loop-fsa.left - 1)

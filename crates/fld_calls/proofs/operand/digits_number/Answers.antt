@@ -2,8 +2,10 @@ use Rattle.std.proofs.Common.{◌≡◌, ◌+◌, ◌*◌, ◌-◌, get_or, take
 use Rattle.std.specs.Str.{all_ascii_digits}
 use Rattle.std.proofs.lemmas.List.{take_more}
 use Rattle.fp_model.specs.Texts.{value}
-use Rattle.fld_calls.proofs.Digits.{figures, digits_snoc, number_snoc, not_all_digits, no_number, prefix_below}
+use Rattle.fld_calls.proofs.Digits.{figures, no_number, prefix_below}
 use Rattle.fld_calls.proofs.operand.digits_number.Goals as goal
+use Rattle.plain_laws.proofs.Digits.{digits_snoc, not_all_digits}
+use Rattle.model_laws.proofs.Figures.{value_digit}
 
 pub returns-then-not-is_ascii_digit-clause-exact : goal.returns-then-not-is_ascii_digit-clause-exact
 returns-then-not-is_ascii_digit-clause-exact c =
@@ -33,7 +35,7 @@ loop-digit-preserved c =
       so_far =
           ap (λ n. c.loop-digit.n * 10 + n) figure ∙ ap (λ n. n * 10 + (get_or ds i 0 - 48))
           c.loop-digit.invariant.so_far
-          ∙ sym (number_snoc (take i ds) (get_or ds i 0)) ∙ ap (λ xs. value 10 (figures xs)) (sym more);
+          ∙ sym (value_digit (take i ds) (get_or ds i 0)) ∙ ap (λ xs. value 10 (figures xs)) (sym more);
     }
 
 pub returns-clause-small : goal.returns-clause-small

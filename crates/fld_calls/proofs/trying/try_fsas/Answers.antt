@@ -4,8 +4,9 @@ use Rattle.fp_model.specs.Fsas.{Fsa, fsa_on, letter_of}
 use Rattle.fp_model.specs.WellFormed.{StandFrom}
 use Rattle.fld_calls.specs.declared.arguments.Fsa.{Fsa as Argument}
 use Rattle.fld_calls.specs.inside.Refusals.{letter_in}
-use Rattle.fld_calls.proofs.ListLemmas.{trying-step, trying-end, drop_got}
+use Rattle.fld_calls.proofs.ListLemmas.{trying-step, trying-end}
 use Rattle.fld_calls.proofs.trying.try_fsas.Goals as goal
+use Rattle.plain_laws.proofs.Places.{drop_got}
 
 pub try_fsa-outcome-requires : goal.try_fsa-outcome-requires
 try_fsa-outcome-requires c = subst (StandFrom 0 c.args.def.now.fields) (sym c.loop-at.invariant.whole) c.requires.fields

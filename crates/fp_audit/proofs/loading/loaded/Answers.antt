@@ -1,6 +1,7 @@
 use Rattle.std.proofs.Common.{◌+◌, subst, drop, arith}
-use Rattle.fp_audit.proofs.Loads.{IsLoadingPast, none_left, past_is, past_loaded, past_more, rest_at}
+use Rattle.fp_audit.proofs.Loads.{IsLoadingPast, past_is, past_loaded, past_more, rest_at}
 use Rattle.fp_audit.proofs.loading.loaded.Goals as goal
+use Rattle.plain_laws.proofs.Lists.{drop_whole}
 
 pub loop-segment-preserved : goal.loop-segment-preserved
 loop-segment-preserved c =
@@ -23,12 +24,12 @@ pub returns-clause-is : goal.returns-clause-is
 returns-clause-is c =
     past_is c.args.def.now c.loop-segment.past
     (subst (IsLoadingPast c.args.def.now c.loop-segment.past)
-    (none_left c.as_slice-segment-items.result.now c.loop-segment.segment-index c.loop-segment-test.false)
+    (drop_whole c.as_slice-segment-items.result.now c.loop-segment.segment-index c.loop-segment-test.false)
     c.loop-segment.invariant.loading)
 
 pub returns-clause-loaded : goal.returns-clause-loaded
 returns-clause-loaded c =
     past_loaded c.args.def.now c.loop-segment.past
     (subst (IsLoadingPast c.args.def.now c.loop-segment.past)
-    (none_left c.as_slice-segment-items.result.now c.loop-segment.segment-index c.loop-segment-test.false)
+    (drop_whole c.as_slice-segment-items.result.now c.loop-segment.segment-index c.loop-segment-test.false)
     c.loop-segment.invariant.loading)

@@ -3,8 +3,8 @@ use Rattle.std.specs.Prelude.{Ok}
 use Rattle.fp_model.specs.Messages.{message_of}
 use Rattle.fp_core.specs.inside.Reading.{IsDemandIn, IsDemandOf}
 use Rattle.fp_core.proofs.Askings.{demand_is}
-use Rattle.fp_core.proofs.Places.{if_ok_by}
 use Rattle.fp_core.proofs.asking.demand_in.Goals as goal
+use Rattle.plain_laws.proofs.Results.{if_ok_by}
 
 pub returns-in-Ok-clause-is : goal.returns-in-Ok-clause-is
 returns-in-Ok-clause-is c =

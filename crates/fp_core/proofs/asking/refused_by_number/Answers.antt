@@ -1,8 +1,8 @@
 use Rattle.std.proofs.Common.{◌∙◌, Some}
 use Rattle.fp_model.specs.Lasts.{Last}
 use Rattle.fp_core.proofs.Askings.{by_some}
-use Rattle.fp_core.proofs.Places.{if_ok_by}
 use Rattle.fp_core.proofs.asking.refused_by_number.Goals as goal
+use Rattle.plain_laws.proofs.Results.{if_ok_by}
 
 pub returns-in-Some-of-clause-request : goal.returns-in-Some-of-clause-request
 returns-in-Some-of-clause-request c scripts =

@@ -1,4 +1,5 @@
 use Rattle.std.proofs.Common.{◌≡◌, sym, ◌∙◌, ap, subst, arith, ℕ, suc, ◌+◌, ◌<◌, List, ◌∷◌, ◌++◌, length, take, drop}
+use Rattle.fp_lists.proofs.ContinuedLemmas.{continued_both}
 use Rattle.fp_model.specs.declared.name.Name.{Name}
 use Rattle.fp_model.specs.Machine.{terminal_in}
 use Rattle.fp_model.specs.Messages.{terminal_of}
@@ -73,12 +74,7 @@ loop-preserved g c =
       reads = λ set h. let after = one.reads set h in let earlier = before.reads set after.0 in
           (earlier.0, after.1 ∙ earlier.1);
       calm = c.in_ok-tell_one.ensures.calm ∙ before.calm;
-      site = record {
-        later = omega (arith, before.site.later, one.site.later);
-        still_told = λ told. one.site.still_told (before.site.still_told told);
-        reference = one.site.reference ∙ before.site.reference;
-        kept = λ x h. one.site.kept x (before.site.kept x h);
-      };
+      site = continued_both g.T.Site.told g.T.Site.faults g.T.Site.holds g.T.Site.keeps _ _ _ before.site one.site;
       crash = λ told.
           let told1 = before.site.still_told told in
           subst (λ (t : List ℕ). Elapses (g.T.Site.disk c.args.site.now) (g.T.Site.disk c.tell_one.new.site)

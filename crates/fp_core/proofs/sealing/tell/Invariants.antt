@@ -3,7 +3,7 @@ use Rattle.std.specs.VecDeque.{deque_capacity}
 use Rattle.fp_site.specs.Disk.{Elapses, Sends}
 use Rattle.fp_site.specs.Site.{ReadsNothing}
 use Rattle.fp_core.specs.inside.Sealing.{AreFreed, replies_of, terminals_of}
-use Rattle.fp_core.specs.Standing.{IsContinued}
+use Rattle.fp_lists.specs.Continued.{IsContinued}
 use Rattle.fp_core.proofs.sealing.tell.Given as goal
 
 -- so many lines are sent, and their terminals are free

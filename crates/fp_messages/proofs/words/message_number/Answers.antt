@@ -2,8 +2,10 @@ use Rattle.std.proofs.Common.{◌≡◌, ◌+◌, ◌*◌, ◌-◌, get_or, take
 use Rattle.std.specs.Str.{all_ascii_digits}
 use Rattle.std.proofs.lemmas.List.{take_more}
 use Rattle.fp_model.specs.Texts.{value}
-use Rattle.fp_messages.proofs.DigitLemmas.{figures, digits_snoc, number_snoc, no_number, none_either, prefix_below}
+use Rattle.fp_messages.proofs.DigitLemmas.{figures, no_number, none_either, prefix_below}
 use Rattle.fp_messages.proofs.words.message_number.Goals as goal
+use Rattle.plain_laws.proofs.Digits.{digits_snoc}
+use Rattle.model_laws.proofs.Figures.{value_digit}
 
 -- no digit at a place, and so no number
 pub returns-then-not-is_ascii_digit : goal.returns-then-not-is_ascii_digit
@@ -40,6 +42,6 @@ loop-digit-preserved c =
       so_far =
           ap (λ n. c.loop-digit.number * 10 + n) figure
           ∙ ap (λ n. n * 10 + (get_or ds i 0 - 48)) before.so_far
-          ∙ sym (number_snoc (take i ds) (get_or ds i 0))
+          ∙ sym (value_digit (take i ds) (get_or ds i 0))
           ∙ ap (λ xs. value 10 (figures xs)) (sym more);
     }

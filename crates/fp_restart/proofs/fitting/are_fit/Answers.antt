@@ -5,8 +5,9 @@ use Rattle.fp_model.specs.declared.log.Item.{Item}
 use Rattle.fp_model.specs.Items.{IsFit, items_of}
 use Rattle.fp_restart.specs.inside.Begun.{Judges}
 use Rattle.fp_restart.proofs.Firsts.{judges-none, judges-on}
-use Rattle.fp_restart.proofs.Fits.{all-next, items-append, items-next}
+use Rattle.fp_restart.proofs.Fits.{all-next, items-next}
 use Rattle.fp_restart.proofs.fitting.are_fit.Goals as goal
+use Rattle.model_laws.proofs.Entries.{items-append}
 
 pub returns-then-not-branch-clause-judged : goal.returns-then-not-branch-clause-judged
 returns-then-not-branch-clause-judged c =

@@ -4,10 +4,10 @@ use Rattle.std.proofs.lemmas.List.{take_more}
 use Rattle.std.specs.List.{AllByRecursion}
 use Rattle.fp_model.specs.declared.log.Item.{Item}
 use Rattle.fp_model.specs.Items.{IsFit}
-use Rattle.log_groups.proofs.LogImages.{all-append}
 use Rattle.fp_restart.specs.inside.Begun.{Judges}
 use Rattle.fp_restart.proofs.Firsts.{judges-none, judges-on}
 use Rattle.fp_restart.proofs.fitting.items_fit.Goals as goal
+use Rattle.plain_laws.proofs.Alls.{all_append}
 
 pub returns-then-not-branch-clause-judged : goal.returns-then-not-branch-clause-judged
 returns-then-not-branch-clause-judged c =
@@ -44,6 +44,6 @@ loop-item-preserved c =
           (judges-on defs c.args.begun.now c.loop-item.begun c.follows.new.begun so_far (c.item-item.result ∷ []) true
           c.loop-item.invariant.judged here);
       each = subst (AllByRecursion (IsFit defs)) (sym more)
-          (all-append (IsFit defs) so_far (c.item-item.result ∷ []) c.loop-item.invariant.each
+          (all_append (IsFit defs) so_far (c.item-item.result ∷ []) c.loop-item.invariant.each
           (c.in_ok-follows.ensures.each c.if-not-branch.false, tt));
     }

@@ -8,7 +8,7 @@ use Rattle.fp_restart.proofs.reading.read_parts.Goals as goal
 pub returns-in_err-lasts-clause-damaged : goal.returns-in_err-lasts-clause-damaged
 returns-in_err-lasts-clause-damaged g c set at t is =
     let same = ap (λ f. f 0) (c.open.ensures.stays t).contents in
-    let bad = c.replay.ensures.damaged set at (c.open.ensures.told t) (search rules) in
+    let bad = c.replay.ensures.damaged set at (c.open.ensures.site.still_told t) (search rules) in
     let gate : c.in_ok-log.log.gate ≡ first_gate (as_front c.args.front.now) =
     ap (λ l. l.gate) c.in_ok-log.ensures.log in (
       bad.0,
@@ -18,6 +18,6 @@ returns-in_err-lasts-clause-damaged g c set at t is =
 
 pub returns-clause-stays : goal.returns-clause-stays
 returns-clause-stays g c t =
-    let t1 = c.open.ensures.told t in
+    let t1 = c.open.ensures.site.still_told t in
     stays_then _ _ _ (g.met.T.Site.lawful c.args.site.now t) (g.met.T.Site.lawful c.open.new.site t1)
     (c.open.ensures.stays t) (c.replay.ensures.stays t1)

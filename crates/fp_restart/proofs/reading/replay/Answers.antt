@@ -40,7 +40,7 @@ loop-numbers-init g c =
       counted = refl;
       only_log = λ set told. (told, λ other. refl);
       read = λ told. omega (arith, gate);
-      site = looks_none g.T.Site.told g.T.Site.disk g.T.Site.faults g.T.Site.holds g.T.Site.keeps c.args.site.now;
+      looks = looks_none g.T.Site.told g.T.Site.disk g.T.Site.faults g.T.Site.holds g.T.Site.keeps c.args.site.now;
     }
 
 pub take_group-requires : goal.take_group-requires
@@ -51,11 +51,11 @@ returns-in_err-taken-clause-damaged g c set at t is =
     let it = c.loop-numbers.invariant in
     let defs = c.args.defs.now in
     let bytes = (g.T.Site.disk c.args.site.now).contents 0 in
-    let same = ap (λ f. f 0) (it.site.stays t).contents in
+    let same = ap (λ f. f 0) (it.looks.stays t).contents in
     let so_far = it.followed t in
     let earlier = entries_of so_far.replayed.groups in
     let bad = c.take_group.ensures.damaged earlier so_far.intervals so_far.replayed.holds.fit set at
-    (it.site.told_still t)
+    (it.looks.site.still_told t)
     (search rules) in
     let here : IsBadAt defs bytes earlier c.loop-numbers.at =
     subst (λ l. IsBadAt defs l earlier c.loop-numbers.at) same bad.2 in (
@@ -66,7 +66,7 @@ returns-in_err-taken-clause-damaged g c set at t is =
 
 pub returns-in_err-taken-clause-cause : goal.returns-in_err-taken-clause-cause
 returns-in_err-taken-clause-cause g c is =
-    let later = c.loop-numbers.invariant.site.later in
+    let later = c.loop-numbers.invariant.looks.site.later in
     let rose = c.take_group.ensures.cause (search rules) in
     grind (arith, later, rose)
 
@@ -77,7 +77,7 @@ looked : (g : given.Over) (c : goal.After-drop-begun-in_err-taken g)
 looked g c =
     let call = c.take_group.ensures in
     looks_on g.T.Site.told g.T.Site.disk g.T.Site.faults g.T.Site.holds g.T.Site.keeps g.met.T.Site.lawful _ _ _
-    c.loop-numbers.invariant.site call.later call.stays call.told call.holds call.keeps
+    c.loop-numbers.invariant.looks call.stays call.site
 
 pub returns-in_err-taken-clause-stays : goal.returns-in_err-taken-clause-stays
 returns-in_err-taken-clause-stays g c = (looked g c).stays
@@ -99,8 +99,8 @@ returns-in_default-clause-replayed g c t =
 pub returns-in_default-clause-closed : goal.returns-in_default-clause-closed
 returns-in_default-clause-closed g c t =
     let it = c.loop-numbers.invariant in
-    let same = ap (λ f. f 0) (it.site.stays t).contents in
-    let t1 = it.site.told_still t in
+    let same = ap (λ f. f 0) (it.looks.stays t).contents in
+    let t1 = it.looks.site.still_told t in
     let closed : slice_index ((g.T.Site.disk c.loop-numbers.site).contents 0) c.loop-numbers.at ≢ 1 = search rules in
     subst (λ n. slice_index ((g.T.Site.disk c.args.site.now).contents 0) n ≢ 1) (sym c.end_at.ensures.gate)
     (subst (λ l. slice_index l c.loop-numbers.at ≢ 1) same closed)
@@ -109,7 +109,7 @@ pub returns-in_default-clause-stays : goal.returns-in_default-clause-stays
 returns-in_default-clause-stays g c =
     let call = c.take_group.ensures in
     (looks_on g.T.Site.told g.T.Site.disk g.T.Site.faults g.T.Site.holds g.T.Site.keeps g.met.T.Site.lawful _ _ _
-    c.loop-numbers.invariant.site call.later call.stays call.told call.holds call.keeps).stays
+    c.loop-numbers.invariant.looks call.stays call.site).stays
 
 pub loop-numbers-preserved : goal.loop-numbers-preserved
 loop-numbers-preserved g c =
@@ -124,8 +124,8 @@ loop-numbers-preserved g c =
       followed = λ t.
           let so_far = it.followed t in
           let earlier = entries_of so_far.replayed.groups in
-          let same = ap (λ f. f 0) (it.site.stays t).contents in
-          let t1 = it.site.told_still t in
+          let same = ap (λ f. f 0) (it.looks.stays t).contents in
+          let t1 = it.looks.site.still_told t in
           let defs = c.args.defs.now in
           let taken : IsTaken defs ((g.T.Site.disk c.loop-numbers.site).contents 0) earlier c.loop-numbers.at
           c.in-Some.taken.next c.in-Some.taken.count c.take_group.new.begun c.loop-numbers.numbers
@@ -153,8 +153,8 @@ loop-numbers-preserved g c =
           let here : g.T.Site.bytes_read c.take_group.new.site 0 + c.loop-numbers.at ≡ g.T.Site.bytes_read
           c.loop-numbers.site 0 + c.in-Some.taken.next = rw c.in-Some.is at (c.in_ok-taken.ensures.count told) in
           omega (arith, so_far, here);
-      site = looks_on g.T.Site.told g.T.Site.disk g.T.Site.faults g.T.Site.holds g.T.Site.keeps g.met.T.Site.lawful _ _
-          _ it.site call.later call.stays call.told call.holds call.keeps;
+      looks = looks_on g.T.Site.told g.T.Site.disk g.T.Site.faults g.T.Site.holds g.T.Site.keeps g.met.T.Site.lawful _ _
+          _ it.looks call.stays call.site;
     }
 
 -- ---- faults, and what is read
@@ -182,9 +182,9 @@ pub returns-in_err-taken-clause-read : goal.returns-in_err-taken-clause-read
 returns-in_err-taken-clause-read g c groups gate t whole told =
     let it = c.loop-numbers.invariant in
     let call = c.take_group.ensures in
-    let t1 = it.site.told_still t in
+    let t1 = it.looks.site.still_told t in
     let bytes = (g.T.Site.disk c.args.site.now).contents 0 in
-    let same = ap (λ f. f 0) (it.site.stays t).contents in
+    let same = ap (λ f. f 0) (it.looks.stays t).contents in
     let so_far = (it.followed t).replayed in
     read_at_most bytes c.args.log.now.gate c.loop-numbers.at so_far.groups (g.T.Site.bytes_read c.args.site.now 0)
     (g.T.Site.bytes_read c.loop-numbers.site 0) (g.T.Site.bytes_read c.take_group.new.site 0) so_far.holds.holds
@@ -198,20 +198,20 @@ returns-in_err-taken-clause-once g c t told =
     let it = c.loop-numbers.invariant in
     let call = c.take_group.ensures in
     let bytes = (g.T.Site.disk c.args.site.now).contents 0 in
-    let same = ap (λ f. f 0) (it.site.stays t).contents in
+    let same = ap (λ f. f 0) (it.looks.stays t).contents in
     let so_far = (it.followed t).replayed in
     read_inside bytes c.args.log.now.gate c.loop-numbers.at so_far.groups (g.T.Site.bytes_read c.args.site.now 0)
     (g.T.Site.bytes_read c.loop-numbers.site 0) (g.T.Site.bytes_read c.take_group.new.site 0) so_far.holds.holds
     (it.read (call.only_log 0 told).0)
-    (let few = call.inside (it.site.told_still t) told in omega (arith, few, ap length same))
+    (let few = call.inside (it.looks.site.still_told t) told in omega (arith, few, ap length same))
 
 pub returns-in_default-clause-read : goal.returns-in_default-clause-read
 returns-in_default-clause-read g c groups gate t whole told =
     let it = c.loop-numbers.invariant in
     let call = c.take_group.ensures in
-    let t1 = it.site.told_still t in
+    let t1 = it.looks.site.still_told t in
     let bytes = (g.T.Site.disk c.args.site.now).contents 0 in
-    let same = ap (λ f. f 0) (it.site.stays t).contents in
+    let same = ap (λ f. f 0) (it.looks.stays t).contents in
     let so_far = (it.followed t).replayed in
     read_at_most bytes c.args.log.now.gate c.loop-numbers.at so_far.groups (g.T.Site.bytes_read c.args.site.now 0)
     (g.T.Site.bytes_read c.loop-numbers.site 0) (g.T.Site.bytes_read c.take_group.new.site 0) so_far.holds.holds
@@ -225,12 +225,12 @@ returns-in_default-clause-once g c t told =
     let it = c.loop-numbers.invariant in
     let call = c.take_group.ensures in
     let bytes = (g.T.Site.disk c.args.site.now).contents 0 in
-    let same = ap (λ f. f 0) (it.site.stays t).contents in
+    let same = ap (λ f. f 0) (it.looks.stays t).contents in
     let so_far = (it.followed t).replayed in
     read_inside bytes c.args.log.now.gate c.loop-numbers.at so_far.groups (g.T.Site.bytes_read c.args.site.now 0)
     (g.T.Site.bytes_read c.loop-numbers.site 0) (g.T.Site.bytes_read c.take_group.new.site 0) so_far.holds.holds
     (it.read (call.only_log 0 told).0)
-    (let few = call.inside (it.site.told_still t) told in omega (arith, few, ap length same))
+    (let few = call.inside (it.looks.site.still_told t) told in omega (arith, few, ap length same))
 
 pub returns-in_default-clause-exact : goal.returns-in_default-clause-exact
 returns-in_default-clause-exact g c told =

@@ -25,7 +25,7 @@ invariant-loop-numbers g l = record {
       (g.T.Site.bytes_read l.initial.site) (g.T.Site.bytes_read l.site);
   read : g.T.Site.tells_reads l.site 0 → g.T.Site.bytes_read l.site 0 + l.initial.log.gate ≡ g.T.Site.bytes_read
       l.initial.site 0 + l.at;
-  site : Looks g.T.Site.told g.T.Site.disk g.T.Site.faults g.T.Site.holds g.T.Site.keeps l.initial.site l.site;
+  looks : Looks g.T.Site.told g.T.Site.disk g.T.Site.faults g.T.Site.holds g.T.Site.keeps l.initial.site l.site;
 }
 
 abbrev pub decreases-loop-numbers : goal.decreases-loop-numbers

@@ -24,8 +24,8 @@ returns-clause-sound g c format scripts entries t sound =
     let bytes = (g.T.Site.disk c.sync.new.self).contents 0 in
     let new = g.T.Site.disk c.read_parts.new.site in
     let same = c.sync.ensures.same t in
-    let t1 = c.sync.ensures.told t in
-    let t2 = c.read_parts.ensures.told t1 in
+    let t1 = c.sync.ensures.site.still_told t in
+    let t2 = c.read_parts.ensures.site.still_told t1 in
     let stays = c.read_parts.ensures.stays t1 in
     let durable = durable_stays (g.T.Site.disk c.sync.new.self) new 0 (g.met.T.Site.lawful c.sync.new.self t1)
     (g.met.T.Site.lawful c.read_parts.new.site t2) stays (c.in_ok-sync.ensures.durable t) in
@@ -52,7 +52,7 @@ returns-clause-never g c format scripts entries t sound =
     let texts = as_front c.args.front.now in
     let front = in_format format texts in
     let bytes = (g.T.Site.disk c.sync.new.self).contents 0 in
-    let t1 = c.sync.ensures.told t in
+    let t1 = c.sync.ensures.site.still_told t in
     let here : IsSound defs scripts front bytes entries =
     subst (λ l. IsSound defs scripts front l entries) (sym (c.sync.ensures.same t)) sound in (
       λ is. c.read_parts.ensures.foreign t1 is (record {
@@ -66,18 +66,18 @@ returns-clause-never g c format scripts entries t sound =
     )
 
 pub returns-clause-damaged : goal.returns-clause-damaged
-returns-clause-damaged g c set at t is = (c.read_parts.ensures.damaged set at (c.sync.ensures.told t) is).0
+returns-clause-damaged g c set at t is = (c.read_parts.ensures.damaged set at (c.sync.ensures.site.still_told t) is).0
 
 pub returns-clause-place : goal.returns-clause-place
 returns-clause-place g c set at t is =
-    let bad = c.read_parts.ensures.damaged set at (c.sync.ensures.told t) is in
+    let bad = c.read_parts.ensures.damaged set at (c.sync.ensures.site.still_told t) is in
     subst (λ l. IsFirstBadAt c.args.defs.now l (first_gate (as_front c.args.front.now)) at) (c.sync.ensures.same t)
     bad.1
 
 pub returns-clause-begun : goal.returns-clause-begun
 returns-clause-begun g c set at t is =
     subst (BeginsFor (as_front c.args.front.now)) (c.sync.ensures.same t)
-    (c.read_parts.ensures.begun set at (c.sync.ensures.told t) is)
+    (c.read_parts.ensures.begun set at (c.sync.ensures.site.still_told t) is)
 
 pub returns-clause-only_damaged : goal.returns-clause-only_damaged
 returns-clause-only_damaged g c at t begins bad =
@@ -85,7 +85,7 @@ returns-clause-only_damaged g c at t begins bad =
     let front = as_front c.args.front.now in
     let bytes = (g.T.Site.disk c.sync.new.self).contents 0 in
     let same = sym (c.sync.ensures.same t) in
-    let t1 = c.sync.ensures.told t in
+    let t1 = c.sync.ensures.site.still_told t in
     damage_or c.read_parts.result defs bytes (first_gate front) at (c.read_parts.ensures.readable t1)
     (λ is. c.read_parts.ensures.foreign t1 is (subst (BeginsFor front) same begins))
     (λ set place is. c.read_parts.ensures.damaged set place t1 is)
@@ -96,7 +96,7 @@ returns-clause-crash g c t =
     let old = g.T.Site.disk c.args.site.now in
     let mid = g.T.Site.disk c.sync.new.self in
     let law = g.met.T.Site.lawful c.args.site.now t in
-    let t1 = c.sync.ensures.told t in
+    let t1 = c.sync.ensures.site.still_told t in
     let law1 = g.met.T.Site.lawful c.sync.new.self t1 in
     let crash = c.sync.ensures.crash t in
     stays_on (Syncs old 0) old mid (g.T.Site.disk c.read_parts.new.site) law1
@@ -110,8 +110,8 @@ returns-clause-reads g c t =
     let mid = g.T.Site.disk c.sync.new.self in
     let new = g.T.Site.disk c.read_parts.new.site in
     let bytes = mid.contents 0 in
-    let t1 = c.sync.ensures.told t in
-    let t2 = c.read_parts.ensures.told t1 in
+    let t1 = c.sync.ensures.site.still_told t in
+    let t2 = c.read_parts.ensures.site.still_told t1 in
     let stays = c.read_parts.ensures.stays t1 in
     let durable = durable_stays mid new 0 (g.met.T.Site.lawful c.sync.new.self t1)
     (g.met.T.Site.lawful c.read_parts.new.site t2) stays (c.in_ok-sync.ensures.durable t) in
@@ -133,7 +133,7 @@ returns-clause-reads g c t =
 pub returns-in_err-sync-clause-settles : goal.returns-in_err-sync-clause-settles
 returns-in_err-sync-clause-settles g c image t settles =
     settles_synced _ _ 0 image (g.met.T.Site.lawful c.args.site.now t)
-    (g.met.T.Site.lawful c.sync.new.self (c.sync.ensures.told t)) (c.sync.ensures.crash t) settles
+    (g.met.T.Site.lawful c.sync.new.self (c.sync.ensures.site.still_told t)) (c.sync.ensures.crash t) settles
 
 pub returns-in_err-sync-clause-begins : goal.returns-in_err-sync-clause-begins
 returns-in_err-sync-clause-begins g c format scripts earlier t safe =
@@ -142,14 +142,14 @@ returns-in_err-sync-clause-begins g c format scripts earlier t safe =
 
 pub returns-clause-settles : goal.returns-clause-settles
 returns-clause-settles g c image t settles =
-    let t1 = c.sync.ensures.told t in
+    let t1 = c.sync.ensures.site.still_told t in
     let law1 = g.met.T.Site.lawful c.sync.new.self t1 in
-    let law2 = g.met.T.Site.lawful c.read_parts.new.site (c.read_parts.ensures.told t1) in
+    let law2 = g.met.T.Site.lawful c.read_parts.new.site (c.read_parts.ensures.site.still_told t1) in
     settles_synced _ _ 0 image (g.met.T.Site.lawful c.args.site.now t) law1 (c.sync.ensures.crash t)
     (settles_stays _ _ 0 image law1 law2 (c.read_parts.ensures.stays t1) settles)
 
 pub returns-clause-begins : goal.returns-clause-begins
 returns-clause-begins g c format scripts earlier t safe =
     narrower c.args.defs.now scripts (in_format format (as_front c.args.front.now)) _ _ earlier
-    (ap (λ f. f 0) (c.read_parts.ensures.stays (c.sync.ensures.told t)).contents ∙ c.sync.ensures.same t)
+    (ap (λ f. f 0) (c.read_parts.ensures.stays (c.sync.ensures.site.still_told t)).contents ∙ c.sync.ensures.same t)
     (λ image settles. returns-clause-settles g c image t settles) safe

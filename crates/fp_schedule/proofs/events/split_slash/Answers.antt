@@ -4,8 +4,8 @@ use Rattle.std.proofs.lemmas.Iterator.{YieldsList-from_slice}
 use Rattle.std.proofs.lemmas.Iterator.Search.{position_from_yields_List}
 use Rattle.std.proofs.lemmas.Grind.{common_steps}
 use Rattle.fp_schedule.specs.Schedule.{is_slash}
-use Rattle.fp_schedule.proofs.PlaceLemmas.{place_is, whole_is}
 use Rattle.fp_schedule.proofs.events.split_slash.Goals as goal
+use Rattle.plain_laws.proofs.Places.{place_is, whole_is}
 
 pub returns-in-Some-clause-front : goal.returns-in-Some-clause-front
 returns-in-Some-clause-front c =

@@ -3,9 +3,9 @@ use Rattle.std.proofs.lemmas.Iterator.{YieldsList-from_slice}
 use Rattle.std.proofs.lemmas.Iterator.Search.{position_from_yields_List}
 use Rattle.std.proofs.lemmas.Grind.{common_steps}
 use Rattle.fp_schedule.specs.Schedule.{separates, tokens_of}
-use Rattle.fp_schedule.proofs.PlaceLemmas.{place_is, whole_is}
 use Rattle.fp_schedule.proofs.TokenLemmas.{end_of, starts_within, token_alone, token_before_more}
 use Rattle.fp_schedule.proofs.tokens.split_token.Goals as goal
+use Rattle.plain_laws.proofs.Places.{place_is, whole_is}
 
 pub returns-in-Some-clause-some : goal.returns-in-Some-clause-some
 returns-in-Some-clause-some c =

@@ -3,9 +3,9 @@ use Rattle.std.proofs.lemmas.Iterator.{YieldsList-from_slice}
 use Rattle.std.proofs.lemmas.Iterator.Search.{position_from_yields_List}
 use Rattle.std.proofs.lemmas.Grind.{common_steps}
 use Rattle.fp_schedule.specs.Schedule.{tokens_of}
-use Rattle.fp_schedule.proofs.PlaceLemmas.{place_is, whole_is}
 use Rattle.fp_schedule.proofs.TokenLemmas.{keeps, unseparated_tokens}
 use Rattle.fp_schedule.proofs.tokens.unseparated.Goals as goal
+use Rattle.plain_laws.proofs.Places.{place_is, whole_is}
 
 pub returns-in-Some-clause-tokens : goal.returns-in-Some-clause-tokens
 returns-in-Some-clause-tokens c =

@@ -1,7 +1,8 @@
 use Rattle.std.proofs.Common.{◌≤◌, length, min, arith}
 use Rattle.fp_show.specs.DbText.{area_line}
-use Rattle.fp_show.proofs.Pairs.{all_written, each_done}
+use Rattle.fp_show.proofs.Pairs.{each_done}
 use Rattle.fp_show.proofs.dedb.put_area_lines.Goals as goal
+use Rattle.plain_laws.proofs.Lists.{all_written}
 
 -- one of the two lists is at its end
 pub returns : goal.returns

@@ -1,8 +1,9 @@
 use Rattle.std.proofs.Common.{◌≡◌, ℕ, ◌-◌, [], ◌∷◌, ◌++◌, ◌∙◌, sym, ap, subst, refl, take, get_or, arith}
 use Rattle.fp_model.specs.Texts.{trimmed}
-use Rattle.fp_show.proofs.Trimming.{trimmed-blank, trimmed-other, take-last}
 use Rattle.fp_show.proofs.field.without_blanks.Goals as goal
 use Rattle.fp_show.proofs.field.without_blanks.Goals.{then-loop-end-test+else-text-end-eq32, else-loop-end-test}
+use Rattle.plain_laws.proofs.Lists.{take-last}
+use Rattle.model_laws.proofs.Texts.{trimmed-blank, trimmed-other}
 
 -- a blank goes
 pub loop-end-preserved : goal.loop-end-preserved

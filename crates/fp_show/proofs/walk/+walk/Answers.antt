@@ -2,9 +2,9 @@ use Rattle.std.proofs.Common.{◌≡◌, ◌<◌, ◌≤◌, ◌+◌, ℕ, List,
 use Rattle.std.proofs.lemmas.List.{take_all}
 use Rattle.fp_model.specs.declared.database.Node.{Node}
 use Rattle.fp_show.specs.inside.Walk.{kinds_from, row_text}
-use Rattle.fp_show.proofs.Pairs.{all_written, written}
 use Rattle.fp_show.proofs.Walking.{rows_done, rows_next}
 use Rattle.fp_show.proofs.walk.+walk.Goals as goal
+use Rattle.plain_laws.proofs.Lists.{all_written, joined_on}
 
 -- a row is written
 pub put_rows-loop-row-preserved : goal.put_rows-loop-row-preserved
@@ -25,7 +25,7 @@ put_rows-loop-row-preserved t c =
     let all = take_all c.loop-node.node-index c.as_slice-node-items.result.now end ∙ c.as_slice-node-items.ensures in
     let kinds : ℕ → List ℕ = λ from. kinds_from types number from in
     let next = c.in-Some-next_child.ensures.some.1 in
-    written _ _ _ _ _ _
+    joined_on _ _ _ _ _ _
     (rows_next types number level child below i (kinds c.loop-row.from) (kinds (child + 1)) rows row lt is next deeper)
     c.loop-row.invariant
     (c.loop-node.invariant ∙ ap (λ (xs : List Node). c.loop-row.into ++ row_text types child below xs) all)

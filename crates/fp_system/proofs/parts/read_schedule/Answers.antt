@@ -5,12 +5,12 @@ use Rattle.fp_source.specs.declared.part.Part.TheVariants as part
 use Rattle.fp_source.specs.declared.whole_part.WholeFault.TheVariants as fault
 use Rattle.fp_system.proofs.Events.{events_fit}
 use Rattle.fp_system.proofs.Jobs.{long_schedule}
-use Rattle.fp_system.proofs.Results.{ok_with}
 use Rattle.fp_system.proofs.parts.read_schedule.Goals as goal
+use Rattle.std.proofs.lemmas.Result.{IfOk-weaker}
 
 pub returns-in-Ok-clause-events : goal.returns-in-Ok-clause-events
 returns-in-Ok-clause-events g c =
-    ok_with c.events_in.result _ _
+    IfOk-weaker c.events_in.result _ _
     (λ events is. events_fit c.args.defs.now c.requires.no_dedbs c.as_slice.result.now events is) c.events_in.ensures.ok
 
 pub returns-in-Err-TooLong-clause-refused : goal.returns-in-Err-TooLong-clause-refused

@@ -18,4 +18,4 @@ returns-in_err-scripts-clause-refused g c command t =
     let p = err_from_is_err_and c.from_residual-in_err-scripts.result c.from_residual-in_err-scripts.ensures.1 in
     rw (p.1, p.2) (or_scripts (kinds_of c.args.exits.now) left command c.in_ok-defs.defs _ _
     (c.in_ok-defs.ensures.ok t) aside
-    (c.in_err-scripts.ensures.refused (c.in_ok-defs.ensures.source.stays_told t)))
+    (c.in_err-scripts.ensures.refused (c.in_ok-defs.ensures.source.continued.still_told t)))

@@ -19,7 +19,7 @@ returns-in_err-events-clause-refused g c t =
     (λ (e : part.Schedule ≡ part.Scripts). cc) in
     let p = err_from_is_err_and c.from_residual-in_err-events.result c.from_residual-in_err-events.ensures.1 in
     rw (p.1, p.2) (or_schedule (kinds_of c.args.exits.now) left left2 c.args.command (job_of c.in_ok-setup.setup) _
-    (c.in_ok-setup.ensures.job t) aside (c.in_err-events.ensures.refused (c.read_setup.ensures.told t)))
+    (c.in_ok-setup.ensures.job t) aside (c.in_err-events.ensures.refused (c.read_setup.ensures.source.still_told t)))
 
 -- where the schedule was read, definitions and scripts are a job
 pub returns-in_err-events-clause-no_job : goal.returns-in_err-events-clause-no_job

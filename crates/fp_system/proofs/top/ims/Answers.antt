@@ -54,7 +54,7 @@ returns-in-Run-clause-due g c s t =
     let named : command_of (map string_bytes c.args.words.now) ≡ Some command.Run = search rules in
     let said =
     subst (λ (text : List ℕ). ByLog mine log (IsEnd mine log text) c.run_on.result ⊎ MayStandIn c.run_on.result)
-    (c.read_task.ensures.messages s) (c.run_on.ensures.due (c.read_task.ensures.told s) t) in
+    (c.read_task.ensures.messages s) (c.run_on.ensures.due (c.read_task.ensures.source.still_told s) t) in
     let left = g.S.Source.left c.args.source.now in
     let events = c.in-Ok.task.events in
     let run_is : c.in-Ok-Some.command ≡ command.Run = search rules in
@@ -210,7 +210,7 @@ returns-in-Run-clause-ran g c job events s t asks has =
     (c.read_task.ensures.messages s)
     (subst (λ (j : Job). Ran j (input c.in-Ok.task.events (lines_of (g.S.Source.left c.read_task.new.source
     part.Messages))) c.run_on.result old new) same
-    (c.run_on.ensures.ran (c.read_task.ensures.told s) t)))
+    (c.run_on.ensures.ran (c.read_task.ensures.source.still_told s) t)))
 
 pub returns-clause-ran : goal.returns-clause-ran
 returns-clause-ran g c job events s t asks has =
@@ -554,7 +554,7 @@ returns-in-Run-clause-parts g c s =
     record {
       no_schedule = λ other. absurd (other named);
       no_messages = λ other. absurd (other named);
-      all = λ run done. c.run_on.ensures.read (c.read_task.ensures.told s) done;
+      all = λ run done. c.run_on.ensures.read (c.read_task.ensures.source.still_told s) done;
       unread = λ run of.
           ap (λ (next : _). g.S.Source.left next part.Messages) (c.run_on.ensures.unread of)
           ∙ c.read_task.ensures.messages s;

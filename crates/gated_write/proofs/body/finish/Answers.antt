@@ -18,16 +18,16 @@ returns-clause-ready g c old gate body t writing = on_ok c.sync.result (c.sync.e
 
 pub returns-clause-crash : goal.returns-clause-crash
 returns-clause-crash g c old gate t each = finish_through c.args.set _ _ (g.met.S.Site.lawful c.args.site.now t)
-    (g.met.S.Site.lawful c.sync.new.self (c.sync.ensures.told t)) (c.sync.ensures.crash t) old gate each
+    (g.met.S.Site.lawful c.sync.new.self (c.sync.ensures.site.still_told t)) (c.sync.ensures.crash t) old gate each
 
 pub returns-clause-settles : goal.returns-clause-settles
 returns-clause-settles g c old gate t each = finish_settles c.args.set _ _ (g.met.S.Site.lawful c.args.site.now t)
-    (g.met.S.Site.lawful c.sync.new.self (c.sync.ensures.told t)) (c.sync.ensures.crash t) old gate each
+    (g.met.S.Site.lawful c.sync.new.self (c.sync.ensures.site.still_told t)) (c.sync.ensures.crash t) old gate each
 
 pub returns-clause-front : goal.returns-clause-front
 returns-clause-front g c old gate t each = sync_keeps c.args.set _ _ (g.met.S.Site.lawful c.args.site.now t)
-    (g.met.S.Site.lawful c.sync.new.self (c.sync.ensures.told t)) (c.sync.ensures.crash t) old gate each
+    (g.met.S.Site.lawful c.sync.new.self (c.sync.ensures.site.still_told t)) (c.sync.ensures.crash t) old gate each
 
 pub returns-clause-front_settles : goal.returns-clause-front_settles
 returns-clause-front_settles g c old gate t each = sync_settles c.args.set _ _ (g.met.S.Site.lawful c.args.site.now t)
-    (g.met.S.Site.lawful c.sync.new.self (c.sync.ensures.told t)) (c.sync.ensures.crash t) old gate each
+    (g.met.S.Site.lawful c.sync.new.self (c.sync.ensures.site.still_told t)) (c.sync.ensures.crash t) old gate each

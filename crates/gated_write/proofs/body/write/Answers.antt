@@ -1,4 +1,4 @@
-use Rattle.std.proofs.Common.{◌∙◌, inl, inr, ◌+◌, ◌<◌, ◌≤◌, ◌∷◌, [], ap, arith}
+use Rattle.std.proofs.Common.{◌∙◌, inl, inr, ◌+◌, ◌<◌, ◌∷◌, [], ap, arith}
 use Rattle.fp_site.specs.Disk.{written}
 use Rattle.fp_site.proofs.Frames.{only_joined}
 use Rattle.fp_site.proofs.Runs.{joined, weaker}
@@ -8,7 +8,7 @@ use Rattle.gated_write.proofs.body.write.Goals as goal
 
 pub returns-in_err-put-clause-crash : goal.returns-in_err-put-clause-crash
 returns-in_err-put-clause-crash g c t durable stands =
-    let t1 = c.put.ensures.told t in
+    let t1 = c.put.ensures.site.still_told t in
     let law = g.met.S.Site.lawful c.args.site.now t in
     let law1 = g.met.S.Site.lawful c.put.new.site t1 in
     let b = begins c.args.set c.args.gate (g.S.Site.disk c.args.site.now) durable stands in
@@ -19,7 +19,7 @@ returns-in_err-put-clause-crash g c t durable stands =
 
 pub returns-in_err-put-clause-settles : goal.returns-in_err-put-clause-settles
 returns-in_err-put-clause-settles g c image t durable stands settles =
-    let t1 = c.put.ensures.told t in
+    let t1 = c.put.ensures.site.still_told t in
     let law = g.met.S.Site.lawful c.args.site.now t in
     let law1 = g.met.S.Site.lawful c.put.new.site t1 in
     let b = begins c.args.set c.args.gate (g.S.Site.disk c.args.site.now) durable stands in
@@ -30,48 +30,48 @@ returns-in_err-put-clause-settles g c image t durable stands settles =
 
 pub returns-in_err-finish-clause-only : goal.returns-in_err-finish-clause-only
 returns-in_err-finish-clause-only g c t =
-    let t1 = c.put.ensures.told t in
+    let t1 = c.put.ensures.site.still_told t in
     only_joined c.args.set _ _ _ (g.met.S.Site.lawful c.args.site.now t) (g.met.S.Site.lawful c.put.new.site t1)
     (c.put.ensures.only t) (c.finish.ensures.only t1)
 
 pub returns-in_err-finish-clause-crash : goal.returns-in_err-finish-clause-crash
 returns-in_err-finish-clause-crash g c t durable stands =
-    let t1 = c.put.ensures.told t in
+    let t1 = c.put.ensures.site.still_told t in
     let law = g.met.S.Site.lawful c.args.site.now t in
     let law1 = g.met.S.Site.lawful c.put.new.site t1 in
     let b = begins c.args.set c.args.gate (g.S.Site.disk c.args.site.now) durable stands in
     let lt : c.args.gate < c.args.gate + 1 = omega arith in
     let run1 = c.put.ensures.crash _ c.args.gate t b.each stands lt in
     let each1 = c.put.ensures.settles _ c.args.gate t b.each stands lt in
-    let t2 = c.finish.ensures.told t1 in
+    let t2 = c.finish.ensures.site.still_told t1 in
     let run2 = joined _ _ _ _ run1 (c.finish.ensures.crash _ c.args.gate t1 each1) in
     let each2 = c.finish.ensures.settles _ c.args.gate t1 each1 in
     weaker _ _ _ _ (λ s un. inl un) run2
 
 pub returns-in_err-finish-clause-settles : goal.returns-in_err-finish-clause-settles
 returns-in_err-finish-clause-settles g c image t durable stands settles =
-    let t1 = c.put.ensures.told t in
+    let t1 = c.put.ensures.site.still_told t in
     let law = g.met.S.Site.lawful c.args.site.now t in
     let law1 = g.met.S.Site.lawful c.put.new.site t1 in
     let b = begins c.args.set c.args.gate (g.S.Site.disk c.args.site.now) durable stands in
     let lt : c.args.gate < c.args.gate + 1 = omega arith in
     let run1 = c.put.ensures.crash _ c.args.gate t b.each stands lt in
     let each1 = c.put.ensures.settles _ c.args.gate t b.each stands lt in
-    let t2 = c.finish.ensures.told t1 in
+    let t2 = c.finish.ensures.site.still_told t1 in
     let run2 = joined _ _ _ _ run1 (c.finish.ensures.crash _ c.args.gate t1 each1) in
     let each2 = c.finish.ensures.settles _ c.args.gate t1 each1 in
     inl (each2 image settles)
 
 pub returns-clause-opened : goal.returns-clause-opened
 returns-clause-opened g c t durable stands =
-    let t1 = c.put.ensures.told t in
+    let t1 = c.put.ensures.site.still_told t in
     let law = g.met.S.Site.lawful c.args.site.now t in
     let law1 = g.met.S.Site.lawful c.put.new.site t1 in
     let b = begins c.args.set c.args.gate (g.S.Site.disk c.args.site.now) durable stands in
     let lt : c.args.gate < c.args.gate + 1 = omega arith in
     let run1 = c.put.ensures.crash _ c.args.gate t b.each stands lt in
     let each1 = c.put.ensures.settles _ c.args.gate t b.each stands lt in
-    let t2 = c.finish.ensures.told t1 in
+    let t2 = c.finish.ensures.site.still_told t1 in
     let run2 = joined _ _ _ _ run1 (c.finish.ensures.crash _ c.args.gate t1 each1) in
     let each2 = c.finish.ensures.settles _ c.args.gate t1 each1 in
     let writing = c.in_ok-put.ensures.wrote _ c.args.gate [] t b (omega arith) in
@@ -80,8 +80,8 @@ returns-clause-opened g c t durable stands =
 
 pub returns-clause-only : goal.returns-clause-only
 returns-clause-only g c t =
-    let t1 = c.put.ensures.told t in
-    let t2 = c.finish.ensures.told t1 in
+    let t1 = c.put.ensures.site.still_told t in
+    let t2 = c.finish.ensures.site.still_told t1 in
     let law = g.met.S.Site.lawful c.args.site.now t in
     only_joined c.args.set _ _ _ law (g.met.S.Site.lawful c.finish.new.site t2)
     (only_joined c.args.set _ _ _ law (g.met.S.Site.lawful c.put.new.site t1) (c.put.ensures.only t)
@@ -89,14 +89,14 @@ returns-clause-only g c t =
 
 pub returns-clause-crash : goal.returns-clause-crash
 returns-clause-crash g c t durable stands =
-    let t1 = c.put.ensures.told t in
+    let t1 = c.put.ensures.site.still_told t in
     let law = g.met.S.Site.lawful c.args.site.now t in
     let law1 = g.met.S.Site.lawful c.put.new.site t1 in
     let b = begins c.args.set c.args.gate (g.S.Site.disk c.args.site.now) durable stands in
     let lt : c.args.gate < c.args.gate + 1 = omega arith in
     let run1 = c.put.ensures.crash _ c.args.gate t b.each stands lt in
     let each1 = c.put.ensures.settles _ c.args.gate t b.each stands lt in
-    let t2 = c.finish.ensures.told t1 in
+    let t2 = c.finish.ensures.site.still_told t1 in
     let run2 = joined _ _ _ _ run1 (c.finish.ensures.crash _ c.args.gate t1 each1) in
     let each2 = c.finish.ensures.settles _ c.args.gate t1 each1 in
     let writing = c.in_ok-put.ensures.wrote _ c.args.gate [] t b (omega arith) in
@@ -106,14 +106,14 @@ returns-clause-crash g c t durable stands =
 
 pub returns-clause-settles : goal.returns-clause-settles
 returns-clause-settles g c image t durable stands settles =
-    let t1 = c.put.ensures.told t in
+    let t1 = c.put.ensures.site.still_told t in
     let law = g.met.S.Site.lawful c.args.site.now t in
     let law1 = g.met.S.Site.lawful c.put.new.site t1 in
     let b = begins c.args.set c.args.gate (g.S.Site.disk c.args.site.now) durable stands in
     let lt : c.args.gate < c.args.gate + 1 = omega arith in
     let run1 = c.put.ensures.crash _ c.args.gate t b.each stands lt in
     let each1 = c.put.ensures.settles _ c.args.gate t b.each stands lt in
-    let t2 = c.finish.ensures.told t1 in
+    let t2 = c.finish.ensures.site.still_told t1 in
     let run2 = joined _ _ _ _ run1 (c.finish.ensures.crash _ c.args.gate t1 each1) in
     let each2 = c.finish.ensures.settles _ c.args.gate t1 each1 in
     let writing = c.in_ok-put.ensures.wrote _ c.args.gate [] t b (omega arith) in
@@ -124,8 +124,8 @@ returns-clause-settles g c image t durable stands settles =
 
 pub returns-clause-text : goal.returns-clause-text
 returns-clause-text g c t le =
-    let t1 = c.put.ensures.told t in
-    let t2 = c.finish.ensures.told t1 in
+    let t1 = c.put.ensures.site.still_told t in
+    let t2 = c.finish.ensures.site.still_told t1 in
     on_ok c.open.result (c.open.ensures.text t2) (λ text.
     text
     ∙ ap (λ l. written l c.args.gate (1 ∷ [])) (c.finish.ensures.same t1 ∙ c.in_ok-put.ensures.text t)
@@ -145,7 +145,7 @@ returns-in_err-put-clause-front_settles g c t durable le =
 
 pub returns-in_err-finish-clause-front : goal.returns-in_err-finish-clause-front
 returns-in_err-finish-clause-front g c t durable le =
-    let t1 = c.put.ensures.told t in
+    let t1 = c.put.ensures.site.still_told t in
     let each = all_fronts c.args.set c.args.gate (g.S.Site.disk c.args.site.now) durable in
     let each1 = c.put.ensures.front_settles _ c.args.gate t each le (omega arith) in
     joined _ _ _ _ (c.put.ensures.front _ c.args.gate t each le (omega arith))
@@ -153,15 +153,15 @@ returns-in_err-finish-clause-front g c t durable le =
 
 pub returns-in_err-finish-clause-front_settles : goal.returns-in_err-finish-clause-front_settles
 returns-in_err-finish-clause-front_settles g c t durable le =
-    let t1 = c.put.ensures.told t in
+    let t1 = c.put.ensures.site.still_told t in
     let each = all_fronts c.args.set c.args.gate (g.S.Site.disk c.args.site.now) durable in
     let each1 = c.put.ensures.front_settles _ c.args.gate t each le (omega arith) in
     c.finish.ensures.front_settles _ c.args.gate t1 each1
 
 pub returns-clause-front : goal.returns-clause-front
 returns-clause-front g c t durable le =
-    let t1 = c.put.ensures.told t in
-    let t2 = c.finish.ensures.told t1 in
+    let t1 = c.put.ensures.site.still_told t in
+    let t2 = c.finish.ensures.site.still_told t1 in
     let each = all_fronts c.args.set c.args.gate (g.S.Site.disk c.args.site.now) durable in
     let each1 = c.put.ensures.front_settles _ c.args.gate t each le (omega arith) in
     let each2 = c.finish.ensures.front_settles _ c.args.gate t1 each1 in
@@ -170,8 +170,8 @@ returns-clause-front g c t durable le =
 
 pub returns-clause-front_settles : goal.returns-clause-front_settles
 returns-clause-front_settles g c t durable le =
-    let t1 = c.put.ensures.told t in
-    let t2 = c.finish.ensures.told t1 in
+    let t1 = c.put.ensures.site.still_told t in
+    let t2 = c.finish.ensures.site.still_told t1 in
     let each = all_fronts c.args.set c.args.gate (g.S.Site.disk c.args.site.now) durable in
     let each1 = c.put.ensures.front_settles _ c.args.gate t each le (omega arith) in
     let each2 = c.finish.ensures.front_settles _ c.args.gate t1 each1 in

@@ -4,8 +4,10 @@ use Rattle.std.specs.Ordering.{nat_cmp}
 use Rattle.std.specs.BTreeMap.{get}
 use Rattle.std.proofs.lemmas.Bool.Decides.{nat_tests}
 use Rattle.held_intervals.specs.Holding.{overlaid}
-use Rattle.held_intervals.proofs.Holds.{none_changed, no_entries, goes_joined, fit_same, fit_popped, popped}
+use Rattle.held_intervals.proofs.Holds.{none_changed, fit_same, fit_popped, popped}
 use Rattle.held_intervals.proofs.settling.put_all.Goals as goal
+use Rattle.ci_space.proofs.GoingLemmas.{goes_on_joined}
+use Rattle.plain_laws.proofs.Alls.{no_entries}
 
 pub loop-ci-preserved : goal.loop-ci-preserved
 loop-ci-preserved g c =
@@ -20,7 +22,7 @@ loop-ci-preserved g c =
     let number = c.put.ensures.number in
     record {
       number = number ∙ inv.number;
-      goes_on = goes_joined _ _ _ _ _ _ _ inv.goes_on c.put.ensures.goes_on;
+      goes_on = goes_on_joined _ _ _ _ _ _ _ inv.goes_on c.put.ensures.goes_on;
       fit = fit_same _ _ _ _ after number c.put.ensures.goes_on.same_size (fit_popped _ _ left after ci inv.fit gone
           others);
       same = λ told.

@@ -7,7 +7,7 @@ pub returns-in_ok-body-in-Some-clause-found : goal.returns-in_ok-body-in-Some-cl
 returns-in_ok-body-in-Some-clause-found g c t =
     let bytes = (g.S.Site.disk c.args.site.now).contents 0 in
     let has : HasLength bytes c.args.at c.in-Some.len = rw c.in-Some.is at (c.in_ok-length_at.ensures.found t) in
-    let t1 = c.length_at.ensures.told t in
+    let t1 = c.length_at.ensures.site.still_told t in
     let same = ap (λ f. f 0) (c.length_at.ensures.stays t).contents in
     let inside : c.args.at + 9 + c.in-Some.len ≤ length ((g.S.Site.disk c.length_at.new.site).contents 0) =
     omega (arith, has.inside, ap length same) in

@@ -22,7 +22,7 @@ returns-then-len-eq0-clause-none g c t one =
     let bytes = (g.S.Site.disk c.args.site.now).contents 0 in
     let size = c.in_ok-size.ensures.value t in
     let bound = c.in_ok-size.ensures.bound in
-    let read = c.number_of-len.ensures.text ∙ c.in_ok-read_at.ensures.value (c.size.ensures.told t) ∙ ap
+    let read = c.number_of-len.ensures.text ∙ c.in_ok-read_at.ensures.value (c.size.ensures.site.still_told t) ∙ ap
     (λ f. read_range (f 0) (c.args.at + 1) 8) (c.size.ensures.stays t).contents in
     let text = length_read bytes c.args.at c.number_of-len.result
     (omega (arith, size, c.if-size-lt9.false, c.if-at-size.false)) read in
@@ -39,7 +39,7 @@ returns-clause-found g c t =
     let bytes = (g.S.Site.disk c.args.site.now).contents 0 in
     let size = c.in_ok-size.ensures.value t in
     let bound = c.in_ok-size.ensures.bound in
-    let read = c.number_of-len.ensures.text ∙ c.in_ok-read_at.ensures.value (c.size.ensures.told t) ∙ ap
+    let read = c.number_of-len.ensures.text ∙ c.in_ok-read_at.ensures.value (c.size.ensures.site.still_told t) ∙ ap
     (λ f. read_range (f 0) (c.args.at + 1) 8) (c.size.ensures.stays t).contents in
     record {
       some = omega (arith, c.if-len-eq0.false);

@@ -8,13 +8,13 @@ use Rattle.msdb_checkpoint.proofs.stages.+run.Goals as goal
 
 pub returns-in-Some-clause-only : goal.returns-in-Some-clause-only
 returns-in-Some-clause-only g n c t =
-    let t1 = c.advance.ensures.told t in
+    let t1 = c.advance.ensures.site.still_told t in
     only_joined c.args.set _ _ _ (g.met.S.Site.lawful c.args.site.now t) (g.met.S.Site.lawful c.advance.new.site t1)
     (c.advance.ensures.only t) (c.run.ensures.only t1)
 
 pub returns-in-Some-clause-crash : goal.returns-in-Some-clause-crash
 returns-in-Some-clause-crash g n c t at =
-    let t1 = c.advance.ensures.told t in
+    let t1 = c.advance.ensures.site.still_told t in
     let next = c.in_ok-next.ensures.next t at in
     let at1 : IsAt c.args.body.now c.args.set (g.S.Site.disk c.advance.new.site) c.in-Some.next =
     subst (IsNext c.args.body.now c.args.set (g.S.Site.disk c.advance.new.site)) c.in-Some.is next in
@@ -24,7 +24,7 @@ returns-in-Some-clause-crash g n c t at =
 
 pub returns-in-Some-clause-settles : goal.returns-in-Some-clause-settles
 returns-in-Some-clause-settles g n c image t at settles =
-    let t1 = c.advance.ensures.told t in
+    let t1 = c.advance.ensures.site.still_told t in
     let next = c.in_ok-next.ensures.next t at in
     let at1 : IsAt c.args.body.now c.args.set (g.S.Site.disk c.advance.new.site) c.in-Some.next =
     subst (IsNext c.args.body.now c.args.set (g.S.Site.disk c.advance.new.site)) c.in-Some.is next in

@@ -1,6 +1,7 @@
 use Rattle.std.proofs.Common.{get_or, take, refl, arith}
-use Rattle.packed_dec.proofs.Digits.{prefix_small, not_digits, digits_snoc, pair_snoc, take_snoc}
+use Rattle.packed_dec.proofs.Digits.{prefix_small, not_digits, digits_snoc, pair_snoc}
 use Rattle.packed_dec.proofs.reading.digit_pairs.Goals as goal
+use Rattle.plain_laws.proofs.Lists.{take_snoc}
 
 pub returns-then-high-gt9-clause-exact : goal.returns-then-high-gt9-clause-exact
 returns-then-high-gt9-clause-exact c = rw (not_digits c.args.bytes.now c.loop-byte.byte-index c.loop-byte-test.true

@@ -3,13 +3,13 @@ use Rattle.fp_model.specs.State.{areas_of_all, first_area_set}
 use Rattle.past_anchors.specs.Databases.{state_of}
 use Rattle.past_anchors.proofs.Areas.{are_few}
 use Rattle.past_anchors.proofs.Fulls.{in_all_here, in_all_later, none_is_full_of}
-use Rattle.past_anchors.proofs.Lists.{empty_of}
 use Rattle.past_anchors.proofs.full.first_full.Goals as goal
+use Rattle.plain_laws.proofs.Lists.{is_nil}
 
 pub returns-then-is_empty : goal.returns-then-is_empty
 returns-then-is_empty c msdbs =
     none_is_full_of (state_of msdbs c.args.dedbs.now) c.args.inserts.now first_area_set (areas_of_all 0 c.args.defs.now)
-    (empty_of c.args.inserts.now (sym c.is_empty.ensures ∙ c.if-is_empty.true))
+    (is_nil c.args.inserts.now (sym c.is_empty.ensures ∙ c.if-is_empty.true))
 
 pub returns-then-is_some : goal.returns-then-is_some
 returns-then-is_some c msdbs =

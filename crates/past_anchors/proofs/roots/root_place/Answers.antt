@@ -2,10 +2,11 @@ use Rattle.std.proofs.Common.{◌≡◌, ◌<◌, ◌∙◌, ℕ, List, ap, sym,
 use Rattle.fp_model.specs.Order.{root_key}
 use Rattle.fp_model.specs.Texts.{same_text}
 use Rattle.fp_model.specs.declared.database.Root.{Root}
-use Rattle.key_order.proofs.Ascending.{changed_at, changed_none, differs_there, past_none, some_is}
-use Rattle.past_anchors.proofs.Lists.{get_as}
+use Rattle.key_order.proofs.Ascending.{changed_at, changed_none, differs_there, past_none}
 use Rattle.past_anchors.proofs.roots.root_place.Goals as goal
 use Rattle.past_anchors.proofs.roots.root_place.Goals.{else-at-roots-via-then-at-roots+else-eq, else-at-roots-via-else-at-roots}
+use Rattle.plain_laws.proofs.Places.{stands_at}
+use Rattle.std.proofs.lemmas.Option.{same_Some}
 
 pub returns-then-eq-clause-place : goal.returns-then-eq-clause-place
 returns-then-eq-clause-place c up change x at =
@@ -16,7 +17,7 @@ returns-then-eq-clause-place c up change x at =
     let less : n < length roots = omega arith in
     let same : same_text (key y) c.args.key.now ≡ true =
     ap (λ (k : List ℕ). same_text k c.args.key.now) (sym c.root_key.ensures) ∙ sym c.eq.ensures ∙ c.if-eq.true in
-    let is : y ≡ x = some_is y x (sym (get_as roots n y less c.index-roots-at.is) ∙ at) in
+    let is : y ≡ x = same_Some y x (sym (stands_at roots n y less c.index-roots-at.is) ∙ at) in
     changed_at key c.args.key.now change roots n x up (c.roots_below-at.ensures.place up) at
     (subst (λ (z : Root). same_text (key z) c.args.key.now ≡ true) is same)
 
@@ -30,7 +31,7 @@ returns-else-at-roots-clause-place c up change =
           let less : n < length roots = omega arith in
           changed_none key c.args.key.now change roots n up (c.roots_below-at.ensures.place up)
           (differs_there key c.args.key.now roots n w.index-roots-at.result
-          (get_as roots n w.index-roots-at.result less w.index-roots-at.is)
+          (stands_at roots n w.index-roots-at.result less w.index-roots-at.is)
           (ap (λ (k : List ℕ). same_text k c.args.key.now) (sym w.root_key.ensures) ∙ sym w.eq.ensures ∙
           w.if-eq.false))
       | else-at-roots-via-else-at-roots w ↦

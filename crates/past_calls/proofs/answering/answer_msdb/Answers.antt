@@ -5,10 +5,10 @@ use Rattle.past_segments.specs.Times.{database_at}
 use Rattle.past_segments.specs.Pasts.{databases_at}
 use Rattle.past_calls.specs.inside.Replies.{segments_in}
 use Rattle.past_calls.proofs.AnswerLemmas.{names_it, replies}
-use Rattle.past_calls.proofs.BeginLemmas.{if_ok}
 use Rattle.past_calls.proofs.PastLemmas.{shown_at}
 use Rattle.past_calls.proofs.WorkLemmas.{position_fits, positions_within}
 use Rattle.past_calls.proofs.answering.answer_msdb.Goals as goal
+use Rattle.plain_laws.proofs.Results.{if_ok_then}
 
 pub answer-requires-clause-positions : goal.answer-requires-clause-positions
 answer-requires-clause-positions c =
@@ -38,7 +38,7 @@ returns-clause-answer c now visible same other =
     let noted = shown_at c.args.note c.args.pasts.now n database.past.now past
     ∙ ap (λ place. database_at place database.past.now) (sym is.note) in
     let found : Msdb = unwrap_or (slice_get (databases_at c.args.note c.args.pasts.now) n) (record { segments = [] }) in
-    if_ok c.answer.result c.answer.ensures.answer (λ answer so.
+    if_ok_then c.answer.result c.answer.ensures.answer (λ answer so.
     replies c.args.defs.now c.args.call.now n def (names_it _ _ _ _ (is.number ∙ c.database_of.ensures) there) now
     visible (databases_at c.args.place c.args.pasts.now) (databases_at c.args.note c.args.pasts.now) own same other
     ∙ ap (λ msdb. msdb_reply def n msdb found own c.args.call.now) segments

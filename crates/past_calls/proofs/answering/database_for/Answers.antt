@@ -1,6 +1,7 @@
 use Rattle.fp_model.specs.WellFormed.{IsMsdbDef}
-use Rattle.past_calls.proofs.PastLemmas.{as_many, def_good, past_of}
+use Rattle.past_calls.proofs.PastLemmas.{as_many, def_good}
 use Rattle.past_calls.proofs.answering.database_for.Goals as goal
+use Rattle.past_segments.proofs.OfPasts.{past_of}
 
 pub past_of-requires : goal.past_of-requires
 past_of-requires c =

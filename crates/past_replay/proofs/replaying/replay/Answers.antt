@@ -1,5 +1,4 @@
 use Rattle.std.proofs.Common.{◌≡◌, ◌∙◌, ◌+◌, ap, arith, length, subst, sym, true, List}
-use Rattle.std.specs.Prelude.{IfOk, Result, Ok, Err}
 use Rattle.std.specs.List.{AllByRecursion}
 use Rattle.fp_model.specs.declared.calls.AnchorChange.{AnchorChange}
 use Rattle.fp_model.specs.declared.calls.Deferred.{Deferred}
@@ -13,25 +12,27 @@ use Rattle.past_replay.specs.declared.running.End.TheVariants as ends
 use Rattle.past_replay.specs.Ends.{with_next}
 use Rattle.past_replay.specs.inside.Running.{IsEnd}
 use Rattle.past_replay.specs.States.{state_at}
-use Rattle.past_replay.proofs.SettledLemmas.{settled_later, shows_next}
+use Rattle.past_replay.proofs.SettledLemmas.{shows_next}
 use Rattle.past_replay.proofs.replaying.replay.Goals as goal
 use Rattle.state_laws.specs.Parts.{FitsAnchorChange, FitsSeqInsert, changes_ascend}
+use Rattle.plain_laws.proofs.Results.{if_ok_then}
+use Rattle.past_settling.proofs.BackLemmas.{ends_later}
 
 pub returns-in_err-running-clause-settled : goal.returns-in_err-running-clause-settled
-returns-in_err-running-clause-settled g c = settled_later c.args.place c.args.pasts.now c.requires.settled
+returns-in_err-running-clause-settled g c = ends_later c.args.place c.args.pasts.now c.requires.settled
 
 pub returns-in_err-reply-clause-settled : goal.returns-in_err-reply-clause-settled
-returns-in_err-reply-clause-settled g c = settled_later c.args.place c.args.pasts.now c.requires.settled
+returns-in_err-reply-clause-settled g c = ends_later c.args.place c.args.pasts.now c.requires.settled
 
 pub returns-in_err-parts-in-Replies-clause-settled : goal.returns-in_err-parts-in-Replies-clause-settled
 returns-in_err-parts-in-Replies-clause-settled g c =
-    settled_later c.args.place c.args.pasts.now c.requires.settled
+    ends_later c.args.place c.args.pasts.now c.requires.settled
 
 pub returns-in-Stuck-clause-settled : goal.returns-in-Stuck-clause-settled
-returns-in-Stuck-clause-settled g c = settled_later c.args.place c.args.pasts.now c.requires.settled
+returns-in-Stuck-clause-settled g c = ends_later c.args.place c.args.pasts.now c.requires.settled
 
 pub returns-in-Rolls-clause-settled : goal.returns-in-Rolls-clause-settled
-returns-in-Rolls-clause-settled g c = settled_later c.args.place c.args.pasts.now c.requires.settled
+returns-in-Rolls-clause-settled g c = ends_later c.args.place c.args.pasts.now c.requires.settled
 
 -- what the transaction hands in fits
 pub commit-requires-clause-fit : goal.commit-requires-clause-fit
@@ -66,11 +67,6 @@ commit-requires-clause-fits g c =
           state.inserts;
     }
 
--- what holds of what there is
-if_ok : {A E : Type 0} {P Q : A → Type 0} (r : Result A E) → IfOk r P → ((a : A) → P a → Q a) → IfOk r Q
-if_ok (Ok a) p f = f a p
-if_ok (Err e) p f = tt
-
 pub returns-in_ok-parts-in-Replies-clause-alone : goal.returns-in_ok-parts-in-Replies-clause-alone
 returns-in_ok-parts-in-Replies-clause-alone g c now states are =
     let defs = c.args.defs.now in
@@ -79,7 +75,7 @@ returns-in_ok-parts-in-Replies-clause-alone g c now states are =
     let end : IsEnd _ c.run.new.self (ends.Replies reply)
     = subst (IsEnd _ c.run.new.self) c.in-Replies.is c.in_ok-reply.ensures in
     let its = c.in_ok-parts-in-Replies.ensures in
-    if_ok c.commit.result
+    if_ok_then c.commit.result
     (c.commit.ensures.alone own
     (record { deferred = sym its.deferred; changes = sym its.changes; inserts = sym its.inserts }))
     (λ alone so.

@@ -1,7 +1,8 @@
 use Rattle.std.proofs.Common.{subst, ◌+◌, take}
 use Rattle.past_settling.specs.inside.Queues.{TakesBack, any_names, names}
-use Rattle.past_settling.proofs.BackLemmas.{back_more, nothing_back, one_more, take_whole}
+use Rattle.past_settling.proofs.BackLemmas.{back_more, nothing_back, one_more}
 use Rattle.past_settling.proofs.back.take_back_all.Goals as goal
+use Rattle.plain_laws.proofs.Lists.{take_whole}
 
 pub loop-at-init : goal.loop-at-init
 loop-at-init c = record { back = nothing_back c.args.place c.args.defs.now.msdbs c.args.pasts.now }

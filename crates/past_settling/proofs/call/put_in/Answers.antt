@@ -5,9 +5,9 @@ use Rattle.fp_model.specs.declared.definitions.MsdbDef.{MsdbDef}
 use Rattle.past_segments.specs.Times.{Past}
 use Rattle.past_settling.specs.inside.Queues.{key_in}
 use Rattle.past_settling.specs.inside.Settling.{Leaves}
-use Rattle.past_settling.proofs.OneLemmas.{on_ok}
 use Rattle.past_settling.proofs.QueueLemmas.{its_end, its_past, leaves, now_with, within}
 use Rattle.past_settling.proofs.call.put_in.Goals as goal
+use Rattle.plain_laws.proofs.Results.{on_ok}
 
 -- no past at all, for a list that has one at the place
 abbrev nothing : Past

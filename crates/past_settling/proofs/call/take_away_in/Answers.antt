@@ -1,9 +1,9 @@
 use Rattle.std.proofs.Common.{[]}
 use Rattle.fp_model.specs.State.{without_segment}
 use Rattle.past_segments.specs.Times.{Past}
-use Rattle.past_settling.proofs.OneLemmas.{on_ok}
 use Rattle.past_settling.proofs.QueueLemmas.{its_end, its_past, leaves, now_with, within}
 use Rattle.past_settling.proofs.call.take_away_in.Goals as goal
+use Rattle.plain_laws.proofs.Results.{on_ok}
 
 -- no past at all, for a list that has one at the place
 abbrev nothing : Past

@@ -1,8 +1,9 @@
 use Rattle.std.proofs.Common.{subst, ◌≡◌, take, false}
 use Rattle.fp_model.specs.State.{with_segment}
 use Rattle.fp_model.specs.Texts.{same_text}
-use Rattle.past_settling.proofs.OneLemmas.{past_good, with_good}
+use Rattle.past_settling.proofs.OneLemmas.{past_good}
 use Rattle.past_settling.proofs.one.put.Goals as goal
+use Rattle.state_laws.proofs.Settling.{with_good}
 
 pub returns-clause-leaves : goal.returns-clause-leaves
 returns-clause-leaves c = record {

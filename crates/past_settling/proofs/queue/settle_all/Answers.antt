@@ -7,8 +7,10 @@ use Rattle.past_segments.specs.Pasts.{databases_at}
 use Rattle.past_settling.specs.declared.fault.QueueFault.{QueueFault}
 use Rattle.past_settling.specs.Queues.{IsQueue}
 use Rattle.past_settling.specs.inside.Queues.{IsCall, any_names, names}
-use Rattle.past_settling.proofs.QueueLemmas.{all_done, any_false, drop_end, failed, leaves_on, next_is, stepped}
+use Rattle.past_settling.proofs.QueueLemmas.{any_false, failed, leaves_on, next_is, stepped}
 use Rattle.past_settling.proofs.queue.settle_all.Goals as goal
+use Rattle.plain_laws.proofs.Lists.{drop_whole}
+use Rattle.model_laws.proofs.Segments.{all_done}
 
 pub loop-at-preserved : goal.loop-at-preserved
 loop-at-preserved c =
@@ -35,7 +37,7 @@ pub returns-clause-queue : goal.returns-clause-queue
 returns-clause-queue c =
     c.loop-at.invariant.queue
     ∙ ap (settle_from c.args.defs.now.msdbs c.loop-at.at (databases_at c.args.place c.loop-at.pasts))
-    (drop_end c.args.calls.now c.loop-at.at c.loop-at-test.false)
+    (drop_whole c.args.calls.now c.loop-at.at c.loop-at-test.false)
     ∙ all_done c.args.defs.now.msdbs c.loop-at.at (databases_at c.args.place c.loop-at.pasts)
 
 pub returns-in-Err-clause-queue : goal.returns-in-Err-clause-queue

@@ -1,16 +1,16 @@
 use Rattle.std.proofs.Common.{◌≡◌, ◌∙◌, ◌<◌, ◌-◌, length, get_or, refl, sym, ap, subst, arith}
 use Rattle.ci_space.proofs.Going.{goes-itself}
-use Rattle.ci_overflow.proofs.Going.{goes_on_joined}
 use Rattle.std.proofs.lemmas.Result.{err_from_is_err_and}
 use Rattle.std.proofs.Common.{ℕ, List}
 use Rattle.std.proofs.lemmas.List.{get_or_read, length-set}
 use Rattle.anchor_elements.specs.Elements.{has_serial}
 use Rattle.root_anchor.specs.inside.Rebuilding.{IsPlanned, IsDirect, BuildsRows, types_of_rows}
 use Rattle.fp_model.specs.Order.{child_types}
-use Rattle.root_anchor.proofs.Exits.{same_fault}
 use Rattle.root_anchor.proofs.Growing.{row-none, row-part, row-on, row-whole, rows-none, rows-part, rows-on, rows-whole, RowDone, RowsDone, parted, room-planned, segment-made, same-types}
 use Rattle.root_anchor.proofs.TypeLemmas.{row-node, rows-count, rows-row, child-direct, child-above, child-serial}
 use Rattle.root_anchor.proofs.building.+builds.Goals as goal
+use Rattle.ci_space.proofs.GoingLemmas.{goes_on_joined}
+use Rattle.plain_laws.proofs.Results.{same_fault}
 
 pub build_row-build_segment-requires : goal.build_row-build_segment-requires
 build_row-build_segment-requires g t c κs within =

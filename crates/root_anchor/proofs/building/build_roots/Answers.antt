@@ -1,11 +1,11 @@
 use Rattle.std.proofs.Common.{◌≡◌, ◌∙◌, ◌-◌, ℕ, length, get_or, sym, ap, subst, arith}
 use Rattle.std.proofs.lemmas.Result.{err_from_is_err_and}
 use Rattle.ci_space.proofs.Going.{goes-itself}
-use Rattle.ci_overflow.proofs.Going.{goes_on_joined}
-use Rattle.root_anchor.proofs.Exits.{same_fault}
 use Rattle.root_anchor.proofs.Growing.{roots-none, roots-part, roots-on, roots-whole, RootsDone, same-types}
 use Rattle.root_anchor.proofs.TypeLemmas.{roots-root, root-direct}
 use Rattle.root_anchor.proofs.building.build_roots.Goals as goal
+use Rattle.ci_space.proofs.GoingLemmas.{goes_on_joined}
+use Rattle.plain_laws.proofs.Results.{same_fault}
 
 pub loop-left-init : goal.loop-left-init
 loop-left-init g c = record {

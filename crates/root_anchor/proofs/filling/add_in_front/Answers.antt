@@ -1,10 +1,10 @@
 use Rattle.std.proofs.Common.{refl}
 use Rattle.std.proofs.lemmas.Result.{err_from_is_err_and}
-use Rattle.ci_overflow.proofs.Joins.{on_ok-map}
 use Rattle.root_anchor.specs.inside.Gaps.{AddsInFront}
 use Rattle.root_anchor.proofs.Rebuilt.{place-stays}
 use Rattle.root_anchor.proofs.TypeLemmas.{root-direct, root_form}
 use Rattle.root_anchor.proofs.filling.add_in_front.Goals as goal
+use Rattle.plain_laws.proofs.Results.{on_ok_map}
 
 pub add_segment-requires-clause-fits : goal.add_segment-requires-clause-fits
 add_segment-requires-clause-fits g c =
@@ -21,7 +21,7 @@ returns-clause-filled g c = λ told base.
     let types = c.args.home.now.segments.now in
     let adds = c.in_ok-at.ensures.adds told in
     let shape = root_form types c.args.root.now c.requires.root in
-    on_ok-map _ _ _ (λ put. (let made : AddsInFront c.args.home.now.shape.now types
+    on_ok_map _ _ _ (λ put. (let made : AddsInFront c.args.home.now.shape.now types
     (g.I.Intervals.intervals c.args.i.now) (g.I.Intervals.intervals c.put_root.new.i) c.args.home.now.anchor c.args.first
     c.args.root.now = record {
       added = _;

@@ -1,9 +1,9 @@
 use Rattle.std.proofs.lemmas.Result.{err_from_is_err_and}
-use Rattle.ci_overflow.proofs.Joins.{on_ok-map}
 use Rattle.anchor_elements.specs.Reading.{segment_of}
 use Rattle.root_anchor.specs.inside.Gaps.{AddsBehind}
 use Rattle.root_anchor.proofs.FillLemmas.{others_there}
 use Rattle.root_anchor.proofs.filling.fill.Goals as goal
+use Rattle.plain_laws.proofs.Results.{on_ok_map}
 
 pub returns-clause-filled : goal.returns-clause-filled
 returns-clause-filled g c = λ told h.
@@ -11,7 +11,7 @@ returns-clause-filled g c = λ told h.
     let holder = c.args.gap.now.holder in
     let there = others_there c.args.home.now.shape.now c.args.home.now.segments.now _ _ c.args.home.now.anchor
     c.args.gap.now.added c.in_ok-at.at adds holder.segment holder.at (segment_of holder.said) h in
-    on_ok-map _ _ _ (λ put. (let made : AddsBehind c.args.home.now.shape.now c.args.home.now.segments.now
+    on_ok_map _ _ _ (λ put. (let made : AddsBehind c.args.home.now.shape.now c.args.home.now.segments.now
     (g.I.Intervals.intervals c.args.i.now) (g.I.Intervals.intervals c.put_link.new.i) c.args.home.now.anchor
     c.args.gap.now = record {
       at = c.in_ok-at.at;

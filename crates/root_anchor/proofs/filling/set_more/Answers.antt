@@ -1,5 +1,5 @@
 use Rattle.std.proofs.Common.{◌≡◌, ◌∙◌, true, [], refl, sym, subst, IfOk}
-use Rattle.std.proofs.lemmas.Result.{err_from_is_err_and}
+use Rattle.std.proofs.lemmas.Result.{err_from_is_err_and, IfOk-weaker}
 use Rattle.ci_overflow.specs.Faults.{IsAtFault}
 use Rattle.ci_overflow.specs.Lists.{IsInOrder}
 use Rattle.root_changes.specs.Gaining.{RootsGain}
@@ -9,7 +9,7 @@ use Rattle.root_anchor.specs.inside.Gaps.{Refills}
 use Rattle.root_anchor.specs.inside.Rebuilding.{Rebuilds}
 use Rattle.root_anchor.specs.inside.Standing.{AreStanding}
 use Rattle.root_anchor.proofs.BaseLemmas.{standing_walked}
-use Rattle.root_anchor.proofs.FillLemmas.{any_ok, ok_map}
+use Rattle.root_anchor.proofs.FillLemmas.{any_ok}
 use Rattle.root_anchor.proofs.OneChain.{one_chain}
 use Rattle.root_anchor.proofs.Sound.{chain_sound}
 use Rattle.root_anchor.proofs.filling.set_more.Goals as goal
@@ -40,7 +40,7 @@ returns-clause-refills g c = λ told o.
     let standing = standing_walked shape types _ anchor c.in_ok-roots.field-0 all refl w in
     let made = c.add_missing.ensures.refills told1 (subst (λ x. IsInOrder shape x) (sym same) o) all
     (subst (λ x. AreStanding shape types x anchor all) (sym same) standing) has in
-    ok_map _ _ (λ more. more ≡ true → Refills shape types (g.I.Intervals.intervals c.args.i.now)
+    IfOk-weaker _ _ (λ more. more ≡ true → Refills shape types (g.I.Intervals.intervals c.args.i.now)
     (g.I.Intervals.intervals c.add_missing.new.i) anchor c.args.after.now) (λ more f yes. record {
       all = all;
       standing = standing;

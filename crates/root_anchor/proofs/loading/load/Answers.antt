@@ -3,7 +3,6 @@ use Rattle.std.specs.Ordering.{nat_cmp}
 use Rattle.std.specs.BTreeMap.{get}
 use Rattle.std.proofs.lemmas.Result.{err_from_is_err_and}
 use Rattle.ci_space.specs.Calls.{GoesOn}
-use Rattle.ci_overflow.proofs.Going.{goes_on_joined}
 use Rattle.held_intervals.specs.Holding.{overlaid, AreRead, keeps_itself}
 use Rattle.held_intervals.proofs.Holds.{begun_told, none_changed, held_same}
 use Rattle.root_anchor.specs.Damage.{ChainFails}
@@ -12,6 +11,7 @@ use Rattle.root_anchor.proofs.Exits.{given_of}
 use Rattle.root_anchor.proofs.BaseLemmas.{walked_roots}
 use Rattle.root_anchor.proofs.Sound.{chain_sound}
 use Rattle.root_anchor.proofs.loading.load.Goals as goal
+use Rattle.ci_space.proofs.GoingLemmas.{goes_on_joined}
 
 pub returns-in_err-size-clause-sound : goal.returns-in_err-size-clause-sound
 returns-in_err-size-clause-sound g c = λ told has ci e.

@@ -1,7 +1,6 @@
 use Rattle.std.proofs.Common.{◌≡◌, ◌∙◌, ◌<◌, ◌-◌, ◌+◌, ◌++◌, ◌∷◌, ℕ, suc, List, [], length, get_or, take, drop, sym, ap, subst, arith}
 use Rattle.std.proofs.lemmas.List.{drop_all, get_or_read, length-append, take_all}
 use Rattle.fp_model.specs.Order.{child_types, key_in}
-use Rattle.ci_overflow.proofs.Joins.{on_ok-map}
 use Rattle.root_anchor.specs.declared.standing.Standing.{Standing}
 use Rattle.root_anchor.specs.Keeping.{keys_of_rows}
 use Rattle.root_anchor.specs.inside.Keeping.{IsLastOf, PlansAll, kept, keys_of_row}
@@ -12,6 +11,7 @@ use Rattle.root_anchor.proofs.KeepLemmas.{headed, headed-last, in_rows_none, pla
 use Rattle.root_anchor.proofs.TypeLemmas.{row-node, rows-count, rows-row, child-behind, child-direct}
 use Rattle.root_anchor.proofs.plan.+plans.Goals as goal
 use Rattle.root_anchor.proofs.plan.+plans.Goals.{plan_segment-in-Some, plan_segment-in_default}
+use Rattle.plain_laws.proofs.Results.{on_ok_map}
 
 pub plan_row-plan_segment-requires : goal.plan_row-plan_segment-requires
 plan_row-plan_segment-requires t c =
@@ -195,7 +195,7 @@ plan_segment-returns-clause-kept t c = λ before part e t2 f m.
       | plan_segment-in-Some w ↦ (let is = w.in-Some.is in let at = found.0 in let eq = w.to-is in cc)
       | plan_segment-in_default w ↦ (let is = w.in_default.is in let at = found.0 in absurd (cc))
     ]) in
-    on_ok-map _ _ _ (λ x. (let all : PlansAll before part c.plan_itself.new.standing.items c.match-found.to
+    on_ok_map _ _ _ (λ x. (let all : PlansAll before part c.plan_itself.new.standing.items c.match-found.to
     c.args.plan.now.items c.plan_itself.new.plan.items = record {
       left = x.0;
       ends = to;

@@ -1,12 +1,12 @@
 use Rattle.std.proofs.Common.{◌∙◌, sym, ap}
 use Rattle.ci_space.specs.Interval.{kind_of}
 use Rattle.ci_overflow.specs.Lists.{bytes_at}
-use Rattle.ci_overflow.proofs.Going.{goes_on_joined}
-use Rattle.ci_overflow.proofs.Joins.{on_ok-map}
 use Rattle.root_anchor.proofs.PutLemmas.{base_kind}
 use Rattle.root_anchor.proofs.RootPuts.{puts_root, stays_root}
 use Rattle.anchor_elements.proofs.ElementLemmas.{pointer_is}
 use Rattle.root_anchor.proofs.putting.put_root.Goals as goal
+use Rattle.ci_space.proofs.GoingLemmas.{goes_on_joined}
+use Rattle.plain_laws.proofs.Results.{on_ok_map}
 
 pub returns-then-head-ne-BASE-clause-sound : goal.returns-then-head-ne-BASE-clause-sound
 returns-then-head-ne-BASE-clause-sound g c = λ t p ci e.
@@ -23,7 +23,7 @@ returns-then-eq-clause-put g c = λ t p.
 
 pub returns-clause-put : goal.returns-clause-put
 returns-clause-put g c = λ t p.
-    on_ok-map _ _ _ (λ put. puts_root _ _ _ _ _ _ _ _ _ _ c.base_of-base.ensures (c.in_ok-interval.ensures.same t)
+    on_ok_map _ _ _ (λ put. puts_root _ _ _ _ _ _ _ _ _ _ c.base_of-base.ensures (c.in_ok-interval.ensures.same t)
     (c.in_ok-interval.ensures.bytes t) put c.in_ok-interval.ensures.interval c.head-head.ensures.head
     c.set_head.ensures.head c.set_head.ensures.tiles)
     (c.put.ensures.put (c.interval_at.ensures.goes_on.tells t))

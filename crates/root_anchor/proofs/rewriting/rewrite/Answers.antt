@@ -3,7 +3,6 @@ use Rattle.std.specs.Ordering.{nat_cmp}
 use Rattle.std.specs.BTreeMap.{get}
 use Rattle.std.proofs.lemmas.Result.{err_from_is_err_and}
 use Rattle.ci_space.specs.Calls.{GoesOn}
-use Rattle.ci_overflow.proofs.Going.{goes_on_joined}
 use Rattle.ci_overflow.specs.Lists.{IsInOrder}
 use Rattle.fp_model.specs.declared.database.Root.{Root}
 use Rattle.held_intervals.specs.Holding.{overlaid, AreRead, keeps_itself}
@@ -21,6 +20,7 @@ use Rattle.root_anchor.proofs.FillLemmas.{none_changes, none_own, none_stays, sa
 use Rattle.root_anchor.proofs.HeldLemmas.{starts}
 use Rattle.root_anchor.proofs.Sound.{chain_sound}
 use Rattle.root_anchor.proofs.rewriting.rewrite.Goals as goal
+use Rattle.ci_space.proofs.GoingLemmas.{goes_on_joined}
 
 -- ---- lists that are the same
 

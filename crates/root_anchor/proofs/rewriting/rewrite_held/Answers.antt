@@ -3,7 +3,6 @@ use Rattle.std.proofs.lemmas.Result.{err_from_is_err_and}
 use Rattle.ci_overflow.specs.Faults.{IsAtFault}
 use Rattle.ci_overflow.specs.Lists.{IsInOrder}
 use Rattle.ci_overflow.proofs.FaultLemmas.{in-order-sound}
-use Rattle.ci_overflow.proofs.Joins.{on_ok-map}
 use Rattle.root_anchor.specs.Damage.{ChainFails}
 use Rattle.root_anchor.specs.Faults.{ListsFail}
 use Rattle.root_anchor.specs.Formed.{IsFormed, HasChain, HasRoots, NewAreOwn}
@@ -15,6 +14,7 @@ use Rattle.root_anchor.proofs.ChangeLemmas.{roots_exclusive}
 use Rattle.root_anchor.proofs.ComingLemmas.{lists_now}
 use Rattle.root_anchor.proofs.FillLemmas.{alone_few, alone_keeps, alone_own, refill_stores, refill_apart, refill_own}
 use Rattle.root_anchor.proofs.rewriting.rewrite_held.Goals as goal
+use Rattle.plain_laws.proofs.Results.{on_ok_map}
 
 pub returns-in_err-alone-clause-sound : goal.returns-in_err-alone-clause-sound
 returns-in_err-alone-clause-sound g c = λ told o h ci e.
@@ -334,5 +334,5 @@ pub returns-clause-stood : goal.returns-clause-stood
 returns-clause-stood g c = λ told.
     let told1 = c.set_alone.ensures.goes_on.tells told in
     let same = c.in_ok-more.ensures.same told1 c.if-more.false ∙ c.in_ok-alone.ensures.same told c.if-alone.false in
-    on_ok-map _ _ _ (λ h. inl (subst (λ a. HasChain c.args.shape.now c.args.segments.now a c.args.anchor) same h))
+    on_ok_map _ _ _ (λ h. inl (subst (λ a. HasChain c.args.shape.now c.args.segments.now a c.args.anchor) same h))
     (c.store_held.ensures.stood (c.set_more.ensures.goes_on.tells told1))

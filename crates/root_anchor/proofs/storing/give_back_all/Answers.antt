@@ -1,11 +1,11 @@
 use Rattle.std.proofs.Common.{◌≡◌, ◌∙◌, Err, refl, ap, arith}
 use Rattle.ci_overflow.specs.declared.SpaceFault.TheVariants.{Damaged as SpaceDamaged}
-use Rattle.ci_overflow.proofs.Going.{goes_on_joined}
 use Rattle.anchor_elements.specs.declared.fault.AnchorFault.TheVariants.{Damaged}
 use Rattle.root_anchor.specs.Faults.{as_it_is, given_back}
 use Rattle.root_anchor.proofs.ComingLemmas.{fault-now, fault-later}
 use Rattle.root_anchor.proofs.Giving.{given-none, given-used, given-on, given-all, part-held}
 use Rattle.root_anchor.proofs.storing.give_back_all.Goals as goal
+use Rattle.ci_space.proofs.GoingLemmas.{goes_on_joined}
 
 pub returns-in-Err-clause-lists : goal.returns-in-Err-clause-lists
 returns-in-Err-clause-lists g c = λ told a anchor ci e.

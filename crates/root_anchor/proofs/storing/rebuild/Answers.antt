@@ -1,14 +1,13 @@
 use Rattle.std.proofs.Common.{All, [], sym, subst}
 use Rattle.std.proofs.lemmas.Result.{err_from_is_err_and}
-use Rattle.ci_overflow.proofs.Joins.{on_ok-map}
 use Rattle.root_anchor.specs.inside.Rebuilding.{IsDirect}
 use Rattle.root_anchor.proofs.ComingLemmas.{fault-later}
 use Rattle.root_anchor.proofs.Directs.{roots-direct}
-use Rattle.root_anchor.proofs.Exits.{same_fault}
 use Rattle.root_anchor.proofs.Rebuilt.{givable, kept-chain, place-stays, plan-stays, rebuilds}
 use Rattle.root_anchor.proofs.Takings.{taken-built, taken-planned}
 use Rattle.root_anchor.proofs.TypeLemmas.{root-direct}
 use Rattle.root_anchor.proofs.storing.rebuild.Goals as goal
+use Rattle.plain_laws.proofs.Results.{on_ok_map, same_fault}
 
 pub take_places-requires-clause-direct : goal.take_places-requires-clause-direct
 take_places-requires-clause-direct g c = subst (λ kinds. All (IsDirect c.args.home.now.segments.now) kinds)
@@ -88,7 +87,7 @@ returns-clause-rebuilt g c = λ told r.
     let told3 = c.build_roots.ensures.goes_on.tells told2 in
     let all = taken-built _ _ _ _ _ _ c.args.plan.now.items _ _ c.args.roots.now taken
     c.in_ok-taken.ensures.kept built.1 in
-    on_ok-map _ _ _ (λ put. rebuilds _ _ _ _ _ _ _ c.args.plan.now.items c.args.rest.now c.args.roots.now _ r given
+    on_ok_map _ _ _ (λ put. rebuilds _ _ _ _ _ _ _ c.args.plan.now.items c.args.rest.now c.args.roots.now _ r given
     all put) (c.put_root.ensures.put told3 (place-stays _ _ _ _ _ _ all.exchange (place-stays _ _ _ _ _ _ given r.base)))
 
 pub returns-clause-kept : goal.returns-clause-kept
@@ -104,7 +103,7 @@ returns-clause-kept g c = λ told o r placed.
     let told3 = c.build_roots.ensures.goes_on.tells told2 in
     let all = taken-built _ _ _ _ _ _ c.args.plan.now.items _ _ c.args.roots.now taken
     c.in_ok-taken.ensures.kept built.1 in
-    on_ok-map _ _ _ (λ put. kept-chain _ _ _ _ _ _ _ c.args.plan.now.items c.args.rest.now c.args.roots.now _
+    on_ok_map _ _ _ (λ put. kept-chain _ _ _ _ _ _ _ c.args.plan.now.items c.args.rest.now c.args.roots.now _
     c.requires.anchor o r given all placed put) (c.put_root.ensures.put told3 (place-stays _ _ _ _ _ _ all.exchange
     (place-stays _ _ _ _ _ _ given r.base)))
 

@@ -4,7 +4,6 @@ use Rattle.std.specs.BTreeMap.{get}
 use Rattle.std.proofs.lemmas.Result.{err_from_is_err_and}
 use Rattle.std.proofs.Common.{OnOk}
 use Rattle.ci_space.specs.Calls.{GoesOn}
-use Rattle.ci_overflow.proofs.Going.{goes_on_joined}
 use Rattle.ci_overflow.specs.Lists.{IsInOrder}
 use Rattle.held_intervals.specs.Holding.{overlaid, AreRead, keeps_itself}
 use Rattle.held_intervals.proofs.Holds.{begun_told, none_changed, held_number, on_settled}
@@ -16,6 +15,7 @@ use Rattle.root_anchor.specs.Stored.{ApartKeep, OthersKeep, KeepsSequential}
 use Rattle.root_anchor.proofs.Exits.{at_done}
 use Rattle.root_anchor.proofs.Sound.{chain_sound}
 use Rattle.root_anchor.proofs.storing.store.Goals as goal
+use Rattle.ci_space.proofs.GoingLemmas.{goes_on_joined}
 
 pub returns-in_err-size-clause-sound : goal.returns-in_err-size-clause-sound
 returns-in_err-size-clause-sound g c = λ told o h ci e.

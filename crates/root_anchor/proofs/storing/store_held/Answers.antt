@@ -2,7 +2,6 @@ use Rattle.std.proofs.Common.{◌≡◌, ◌∙◌, List, [], OnOk, reverse, sym
 use Rattle.std.proofs.lemmas.List.{append-nil}
 use Rattle.std.proofs.lemmas.Result.{err_from_is_err_and}
 use Rattle.ci_overflow.specs.Lists.{IsInOrder}
-use Rattle.ci_overflow.proofs.Joins.{on_ok-map}
 use Rattle.root_anchor.specs.Chains.{IsChain}
 use Rattle.root_anchor.specs.Keeping.{keys_of_roots}
 use Rattle.root_anchor.specs.inside.Keeping.{marks_of}
@@ -12,10 +11,10 @@ use Rattle.root_anchor.specs.declared.plan.Planned.{Planned}
 use Rattle.root_anchor.specs.declared.standing.Standing.{Standing}
 use Rattle.root_anchor.proofs.KeyLemmas.{chain-keys, have-keys, keeps-on-ok, kept-placed, kept-reserved, met-reverse}
 use Rattle.root_anchor.proofs.OneChain.{one_chain}
-use Rattle.root_anchor.proofs.Exits.{at_ok, same_fault}
 use Rattle.root_anchor.proofs.Sound.{chain_sound}
 use Rattle.root_anchor.proofs.Rebuilt.{apart-kept, has_chain, lists_fail, own-kept, ready, stores}
 use Rattle.root_anchor.proofs.storing.store_held.Goals as goal
+use Rattle.plain_laws.proofs.Results.{at_ok, on_ok_map, same_fault}
 
 pub returns-in_err-standing-clause-sound : goal.returns-in_err-standing-clause-sound
 returns-in_err-standing-clause-sound g c = λ told o h ci e.
@@ -29,7 +28,7 @@ returns-clause-stored g c = λ told formed.
     let shares = c.in_ok-plan.ensures.shares in
     let is_ready = ready _ _ _ _ c.args.anchor _ _ _ _ _ same c.as_slice.ensures.value standing shares
     c.in_ok-plan.ensures.types in
-    on_ok-map _ _ _ (λ r. (stores _ _ _ _ _ c.args.anchor _ _ _ _ _ same c.as_slice.ensures.value c.requires.anchor
+    on_ok_map _ _ _ (λ r. (stores _ _ _ _ _ c.args.anchor _ _ _ _ _ same c.as_slice.ensures.value c.requires.anchor
     formed standing shares r).stored) (c.rebuild.ensures.rebuilt (c.elements_of.ensures.goes_on.tells told)
     is_ready)
 
@@ -40,7 +39,7 @@ returns-clause-others g c = λ told formed.
     let shares = c.in_ok-plan.ensures.shares in
     let is_ready = ready _ _ _ _ c.args.anchor _ _ _ _ _ same c.as_slice.ensures.value standing shares
     c.in_ok-plan.ensures.types in
-    on_ok-map _ _ _ (λ r. (stores _ _ _ _ _ c.args.anchor _ _ _ _ _ same c.as_slice.ensures.value c.requires.anchor
+    on_ok_map _ _ _ (λ r. (stores _ _ _ _ _ c.args.anchor _ _ _ _ _ same c.as_slice.ensures.value c.requires.anchor
     formed standing shares r).others) (c.rebuild.ensures.rebuilt (c.elements_of.ensures.goes_on.tells told)
     is_ready)
 
@@ -51,7 +50,7 @@ returns-clause-apart g c = λ told o.
     let shares = c.in_ok-plan.ensures.shares in
     let is_ready = ready _ _ _ _ c.args.anchor _ _ _ _ _ same c.as_slice.ensures.value standing shares
     c.in_ok-plan.ensures.types in
-    on_ok-map _ _ _ (λ r. apart-kept _ _ _ _ _ c.args.anchor _ _ _ _ _ same c.as_slice.ensures.value c.requires.anchor
+    on_ok_map _ _ _ (λ r. apart-kept _ _ _ _ _ c.args.anchor _ _ _ _ _ same c.as_slice.ensures.value c.requires.anchor
     o standing shares r) (c.rebuild.ensures.rebuilt (c.elements_of.ensures.goes_on.tells told) is_ready)
 
 pub returns-clause-own : goal.returns-clause-own
@@ -61,7 +60,7 @@ returns-clause-own g c = λ told o.
     let shares = c.in_ok-plan.ensures.shares in
     let is_ready = ready _ _ _ _ c.args.anchor _ _ _ _ _ same c.as_slice.ensures.value standing shares
     c.in_ok-plan.ensures.types in
-    on_ok-map _ _ _ (λ r. own-kept _ _ _ _ _ c.args.anchor _ _ _ _ _ same c.as_slice.ensures.value c.requires.anchor
+    on_ok_map _ _ _ (λ r. own-kept _ _ _ _ _ c.args.anchor _ _ _ _ _ same c.as_slice.ensures.value c.requires.anchor
     o standing shares r) (c.rebuild.ensures.rebuilt (c.elements_of.ensures.goes_on.tells told) is_ready)
 
 pub returns-clause-keep : goal.returns-clause-keep
@@ -99,7 +98,7 @@ returns-clause-sequential g c = λ told formed.
     let shares = c.in_ok-plan.ensures.shares in
     let is_ready = ready _ _ _ _ c.args.anchor _ _ _ _ _ same c.as_slice.ensures.value standing shares
     c.in_ok-plan.ensures.types in
-    on_ok-map _ _ _ (λ r. (stores _ _ _ _ _ c.args.anchor _ _ _ _ _ same c.as_slice.ensures.value c.requires.anchor
+    on_ok_map _ _ _ (λ r. (stores _ _ _ _ _ c.args.anchor _ _ _ _ _ same c.as_slice.ensures.value c.requires.anchor
     formed standing shares r).sequential) (c.rebuild.ensures.rebuilt (c.elements_of.ensures.goes_on.tells told)
     is_ready)
 
@@ -110,7 +109,7 @@ returns-clause-formed g c = λ told formed.
     let shares = c.in_ok-plan.ensures.shares in
     let is_ready = ready _ _ _ _ c.args.anchor _ _ _ _ _ same c.as_slice.ensures.value standing shares
     c.in_ok-plan.ensures.types in
-    on_ok-map _ _ _ (λ r. (stores _ _ _ _ _ c.args.anchor _ _ _ _ _ same c.as_slice.ensures.value c.requires.anchor
+    on_ok_map _ _ _ (λ r. (stores _ _ _ _ _ c.args.anchor _ _ _ _ _ same c.as_slice.ensures.value c.requires.anchor
     formed standing shares r).formed) (c.rebuild.ensures.rebuilt (c.elements_of.ensures.goes_on.tells told)
     is_ready)
 

@@ -2,15 +2,15 @@ use Rattle.std.proofs.Common.{◌∙◌, ◌++◌, sym, ap, subst, arith}
 use Rattle.std.proofs.lemmas.List.{append-nil, nil_from_length}
 use Rattle.std.proofs.lemmas.Result.{err_from_is_err_and}
 use Rattle.ci_space.proofs.Going.{goes-itself}
-use Rattle.ci_overflow.proofs.Going.{goes_on_joined}
 use Rattle.ci_overflow.proofs.FaultLemmas.{in-order-sound}
 use Rattle.root_anchor.specs.Faults.{as_it_is}
 use Rattle.root_anchor.specs.inside.Rebuilding.{IsTaking}
 use Rattle.root_anchor.proofs.ComingLemmas.{comes-joined, fault-later, fault-now}
-use Rattle.root_anchor.proofs.Exits.{same_fault}
 use Rattle.root_anchor.proofs.Growing.{same-types}
 use Rattle.root_anchor.proofs.Takings.{all-taken, direct-last, kept-on, next-room, none-taken, taken-on}
 use Rattle.root_anchor.proofs.taking.take_places.Goals as goal
+use Rattle.ci_space.proofs.GoingLemmas.{goes_on_joined}
+use Rattle.plain_laws.proofs.Results.{same_fault}
 
 pub loop-planned-init : goal.loop-planned-init
 loop-planned-init g c = record {

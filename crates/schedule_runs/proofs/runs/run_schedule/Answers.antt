@@ -28,7 +28,7 @@ returns-in_err-drain-clause-stopped g c origin m told tells beside reached =
     c.from_residual-in_err-drain.result stop c.from_residual-in_err-drain.ensures.1
     (stopped_drain origin c.args.events.now m disk core.lines core.engine [] disk1 mid.lines left1 mid.engine t.rules
     (ap (λ d. d.now) t.defs) on refl disk2 stop
-    (c.in_err-drain.ensures.stopped origin on.here (t.site.still_told told) (t.source.stays_told tells) on.beside
+    (c.in_err-drain.ensures.stopped origin on.here (t.site.still_told told) (t.source.continued.still_told tells) on.beside
     on.reached))
 
 pub returns-in_err-drain-clause-moments : goal.returns-in_err-drain-clause-moments
@@ -45,7 +45,7 @@ returns-in_err-drain-clause-moments g c origin m told tells beside reached =
     moments_drain origin c.args.events.now m disk core.lines core.engine [] disk1 mid.lines left1 mid.engine t.rules
     (ap (λ d. d.now) t.defs) on refl disk2 (g.met.T.Site.lawful c.take_events.new.site told1)
     (t.moments origin m told tells beside reached)
-    (c.drain.ensures.moments origin on.here told1 (t.source.stays_told tells) on.beside on.reached)
+    (c.drain.ensures.moments origin on.here told1 (t.source.continued.still_told tells) on.beside on.reached)
 
 pub returns-in_err-drain-clause-spares : goal.returns-in_err-drain-clause-spares
 returns-in_err-drain-clause-spares g c told =
@@ -82,14 +82,14 @@ returns-clause-done g c origin m told tells beside reached =
     (drained_on_way origin c.args.events.now m disk core.lines core.engine [] disk1 mid.lines left1 mid.engine t.rules
     (ap (λ d. d.now) t.defs) on refl (g.T.Site.disk c.drain.new.site) new.lines left2 new.engine c.drain.ensures.rules
     (ap (λ d. d.now) c.drain.ensures.defs)
-    (c.in_ok-drain.ensures.drained origin on.here (t.site.still_told told) (t.source.stays_told tells) on.beside
+    (c.in_ok-drain.ensures.drained origin on.here (t.site.still_told told) (t.source.continued.still_told tells) on.beside
     on.reached))))
 
 pub returns-clause-read : goal.returns-clause-read
 returns-clause-read g c tells =
     on_ok_sure _ c.close.result
     (nothing_behind c.drain.new.self.lines (g.S.Source.left c.drain.new.source part.Messages)
-    (c.in_ok-drain.ensures.read (c.take_events.ensures.source.stays_told tells)))
+    (c.in_ok-drain.ensures.read (c.take_events.ensures.source.continued.still_told tells)))
 
 pub returns-clause-moments : goal.returns-clause-moments
 returns-clause-moments g c origin m told tells beside reached =
@@ -107,7 +107,7 @@ returns-clause-moments g c origin m told tells beside reached =
     (moments_drain origin c.args.events.now m disk core.lines core.engine [] disk1 mid.lines left1 mid.engine t.rules
     (ap (λ d. d.now) t.defs) on refl disk2 (g.met.T.Site.lawful c.take_events.new.site told1)
     (t.moments origin m told tells beside reached)
-    (c.drain.ensures.moments origin on.here told1 (t.source.stays_told tells) on.beside on.reached))
+    (c.drain.ensures.moments origin on.here told1 (t.source.continued.still_told tells) on.beside on.reached))
 
 pub returns-clause-spares : goal.returns-clause-spares
 returns-clause-spares g c told =

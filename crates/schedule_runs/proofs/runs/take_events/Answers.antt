@@ -8,13 +8,16 @@ use Rattle.fp_core.specs.Relation.{rules_in}
 use Rattle.fp_core.specs.Sparing.{IsLogSet, IsSealing}
 use Rattle.fp_core.specs.Standing.{Leaves, MayStop, seals_of}
 use Rattle.fp_core.proofs.FrontLemmas.{fronts_none, fronts_on, holds_none, holds_on}
-use Rattle.fp_core.proofs.Onwards.{continued_both, continued_none, reads_nothing_both, reads_nothing_none, reads_only_both, reads_only_none}
+use Rattle.fp_lists.proofs.ContinuedLemmas.{continued_both, continued_none}
+use Rattle.fp_source.proofs.Calls.{reads_joined, reads_none}
+use Rattle.fp_core.proofs.Onwards.{reads_nothing_both, reads_nothing_none}
 use Rattle.fp_core.proofs.Rounds.{if_err_from}
 use Rattle.fp_core.proofs.SparingLemmas.{spares_none, spares_on}
 use Rattle.schedule_runs.specs.Standing.{IsStopped, StandsOnWay}
 use Rattle.schedule_runs.specs.Ways.{next_event}
-use Rattle.schedule_runs.proofs.StandingLemmas.{moments_step, none_left, none_on_way, one_on_way, reached_step, stopped_step}
+use Rattle.schedule_runs.proofs.StandingLemmas.{moments_step, none_left, none_on_way, one_on_way, stopped_step}
 use Rattle.schedule_runs.proofs.runs.take_events.Goals as goal
+use Rattle.fp_core.proofs.ReachLemmas.{reached_step}
 
 pub loop-event-init : goal.loop-event-init
 loop-event-init g c =
@@ -40,7 +43,7 @@ loop-event-init g c =
       site_calm = refl;
       source_calm = refl;
       site = continued_none g.T.Site.told g.T.Site.faults g.T.Site.holds g.T.Site.keeps c.args.site.now;
-      source = reads_only_none g.S.Source.told g.S.Source.left g.S.Source.faults g.S.Source.holds g.S.Source.keeps
+      source = reads_none g.S.Source.told g.S.Source.left g.S.Source.faults g.S.Source.holds g.S.Source.keeps
           part.Messages c.args.source.now;
     }
 
@@ -74,7 +77,7 @@ loop-event-preserved g c =
           one_on_way origin es m disk core.lines core.engine (drop at es) disk1 mid.lines left1 mid.engine i.rules
           same_defs on e (drop (at + 1) es) disk2 new.lines left2 new.engine c.in_ok-step.field-0 more one.rules defs2
           (one.leaves origin on.here told1 on.beside.at)
-          (c.in_ok-step.ensures.beside origin on.here told1 (i.source.stays_told tells) on.beside);
+          (c.in_ok-step.ensures.beside origin on.here told1 (i.source.continued.still_told tells) on.beside);
       moments = λ origin m told tells beside reached.
           let on = i.stands origin m told tells beside reached in
           let told1 = i.site.still_told told in
@@ -93,7 +96,7 @@ loop-event-preserved g c =
       front_on = λ told.
           holds_on disk disk1 disk2 core.engine.log.gate mid.engine.log.gate new.engine.log.gate (i.front_on told)
           (c.in_ok-step.ensures.front_on (i.site.still_told told));
-      fair = λ tells. c.in_ok-step.ensures.fair (i.source.stays_told tells) ∙ i.fair tells;
+      fair = λ tells. c.in_ok-step.ensures.fair (i.source.continued.still_told tells) ∙ i.fair tells;
       rules = one.rules ∙ i.rules;
       defs = one.defs ∙ i.defs;
       scripts = one.scripts ∙ i.scripts;
@@ -106,7 +109,7 @@ loop-event-preserved g c =
       source_calm = c.in_ok-step.ensures.source_calm ∙ i.source_calm;
       site = continued_both g.T.Site.told g.T.Site.faults g.T.Site.holds g.T.Site.keeps c.args.site.now
           c.loop-event.site c.step.new.site i.site one.site;
-      source = reads_only_both g.S.Source.told g.S.Source.left g.S.Source.faults g.S.Source.holds g.S.Source.keeps
+      source = reads_joined g.S.Source.told g.S.Source.left g.S.Source.faults g.S.Source.holds g.S.Source.keeps
           part.Messages c.args.source.now c.loop-event.source c.step.new.source i.source one.source;
     }
 

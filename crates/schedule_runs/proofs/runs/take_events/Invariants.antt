@@ -9,7 +9,8 @@ use Rattle.fp_core.specs.Draining.{IsReachedBy}
 use Rattle.fp_core.specs.Fronts.{HoldsFronts, KeepsFronts}
 use Rattle.fp_core.specs.Relation.{rules_in}
 use Rattle.fp_core.specs.Sparing.{IsLogSet, Spares}
-use Rattle.fp_core.specs.Standing.{IsContinued, Origin, StandsBeside}
+use Rattle.fp_core.specs.Standing.{Origin, StandsBeside}
+use Rattle.fp_lists.specs.Continued.{IsContinued}
 use Rattle.schedule_runs.specs.Standing.{IsLeftOnWay, StandsOnWay}
 use Rattle.schedule_runs.proofs.runs.take_events.Given as goal
 

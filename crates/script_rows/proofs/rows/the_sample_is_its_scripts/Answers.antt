@@ -4,19 +4,19 @@ use Rattle.fp_model.proofs.ProgramLemmas.{statement_cost_roll}
 use Rattle.txn_lang.specs.Blocks.{none, one, if_end, repeat_end, no_script, script}
 use Rattle.txn_tokens.specs.Readings.{all_by}
 use Rattle.txn_tokens.specs.Tokens.{letter_token, number_token, text_token, hash_token, token_at, spaced_token_at, tokens_of}
-use Rattle.txn_tokens.specs.Parts.{word_at, sign_at, variable_at, operand_at, operation_at, comparison_at, count_at, bracket_at, key_at, key_behind, ssa_at, fsa_at, field_at, operands_in, fsas_in, fields_in}
+use Rattle.txn_tokens.specs.Parts.{word_at, sign_at, variable_at, operand_at, operation_at, comparison_at, count_at, bracket_at, key_at, key_behind, ssa_at, fsa_op_at, fsa_at, field_at, operands_in, fsas_in, fields_in}
 use Rattle.txn_tokens.specs.Lookups.{db_of, dedb_ssas, get_ssas, isrt_ssas, isrt_fields}
-use Rattle.txn_lang.specs.Statements.{keyword_at, tran_line, set_rest, set_line, if_line, repeat_line, reply_line, rolb_line, get_line, fld_line, isrt_line, repl_line, dlet_line, line_behind}
+use Rattle.txn_lang.specs.Statements.{keywords, keyword_at, set_rest, set_line, if_line, get_line, fld_line, isrt_line, repl_line, dlet_line, line_behind}
 use Rattle.txn_lang.specs.Blocks.{stands}
 use Rattle.txn_lang.specs.Grammar.{statement_in, line_in, lines_in, scripts_fault}
 use Rattle.script_rows.proofs.rows.the_sample_is_its_scripts.Goals as goal
 
 pub returns : goal.returns
 unfolding digits all_by letter_token number_token text_token hash_token token_at spaced_token_at tokens_of word_at
-    sign_at variable_at operand_at operation_at comparison_at count_at bracket_at key_at key_behind ssa_at fsa_at
-    field_at operands_in fsas_in fields_in db_of dedb_ssas get_ssas isrt_ssas isrt_fields keyword_at tran_line set_rest
-    set_line if_line repeat_line reply_line rolb_line get_line fld_line isrt_line repl_line dlet_line line_behind stands
-    statement_in line_in lines_in scripts_fault
+    sign_at variable_at operand_at operation_at comparison_at count_at bracket_at key_at key_behind ssa_at fsa_op_at
+    fsa_at field_at operands_in fsas_in fields_in db_of dedb_ssas get_ssas isrt_ssas isrt_fields keywords keyword_at
+    set_rest set_line if_line get_line fld_line isrt_line repl_line dlet_line line_behind stands statement_in line_in
+    lines_in scripts_fault
 returns c = record {
   written = record {
     short = lit≤ tt;

@@ -1,9 +1,9 @@
 use Rattle.std.proofs.Common.{◌≡◌, ◌∙◌, ℕ, List, ap}
 use Rattle.std.proofs.lemmas.Result.{err_from_is_err_and}
-use Rattle.ci_overflow.proofs.Going.{same_fault}
 use Rattle.seq_dependents.specs.Slots.{part_of}
 use Rattle.seq_dependents.specs.Puts.{segment_size}
 use Rattle.seq_dependents.proofs.appending.append.Goals as goal
+use Rattle.plain_laws.proofs.Results.{same_fault}
 
 pub returns-in_err-put_behind-clause-damaged : goal.returns-in_err-put_behind-clause-damaged
 returns-in_err-put_behind-clause-damaged g c = λ t n e.

@@ -4,13 +4,13 @@ use Rattle.std.specs.Ordering.{nat_cmp}
 use Rattle.std.specs.BTreeMap.{get}
 use Rattle.ci_space.specs.Calls.{GoesOn}
 use Rattle.ci_overflow.specs.Lists.{bytes_at}
-use Rattle.ci_overflow.proofs.Going.{goes_on_joined}
 use Rattle.held_intervals.specs.Holding.{overlaid, keeps_itself}
 use Rattle.held_intervals.proofs.Holds.{begun_told, none_read, none_changed, held_number, on_settled}
 use Rattle.seq_dependents.specs.Control.{begin_of, end_of}
 use Rattle.seq_dependents.specs.Faults.{IsAtFault}
 use Rattle.seq_dependents.specs.Puts.{Appends}
 use Rattle.seq_dependents.proofs.appending.put_behind.Goals as goal
+use Rattle.ci_space.proofs.GoingLemmas.{goes_on_joined}
 
 pub settle-result-requires : goal.settle-result-requires
 settle-result-requires g c =

@@ -1,11 +1,10 @@
 use Rattle.std.proofs.Common.{◌≡◌, ◌∙◌, inl, sym, refl, arith}
 use Rattle.std.proofs.lemmas.Result.{err_from_is_err_and}
 use Rattle.ci_overflow.specs.Lists.{bytes_at}
-use Rattle.ci_overflow.proofs.Going.{same_fault}
 use Rattle.ci_space.specs.Interval.{kind_of}
-use Rattle.seq_dependents.proofs.Controls.{on_ok_map}
 use Rattle.seq_dependents.proofs.Appends.{appends}
 use Rattle.seq_dependents.proofs.appending.put_held.Goals as goal
+use Rattle.plain_laws.proofs.Results.{on_ok_map, same_fault}
 
 pub returns-in_err-fill-clause-damaged : goal.returns-in_err-fill-clause-damaged
 returns-in_err-fill-clause-damaged g c = λ t n e.

@@ -1,5 +1,6 @@
-use Rattle.seq_dependents.proofs.Controls.{on_ok_map, puts_ends}
+use Rattle.seq_dependents.proofs.Controls.{puts_ends}
 use Rattle.seq_dependents.proofs.control.put_ends.Goals as goal
+use Rattle.plain_laws.proofs.Results.{on_ok_map}
 
 pub returns-clause-put : goal.returns-clause-put
 returns-clause-put g c = λ t e.

@@ -1,11 +1,12 @@
 use Rattle.std.proofs.Common.{◌∙◌, refl, arith}
 use Rattle.std.proofs.lemmas.Result.{err_from_is_err_and}
-use Rattle.ci_overflow.proofs.Going.{goes_on_joined, same_fault}
 use Rattle.seq_dependents.specs.Control.{IsKept}
 use Rattle.seq_dependents.proofs.FaultLemmas.{between}
 use Rattle.seq_dependents.proofs.Downs.{not_between, down_on, down_ends}
 use Rattle.seq_dependents.proofs.descending.read_down.Goals.{then-loop-serial-test+else-serial-ends, else-loop-serial-test}
 use Rattle.seq_dependents.proofs.descending.read_down.Goals as goal
+use Rattle.ci_space.proofs.GoingLemmas.{goes_on_joined}
+use Rattle.plain_laws.proofs.Results.{same_fault}
 
 pub returns-in_err-step-clause-damaged : goal.returns-in_err-step-clause-damaged
 returns-in_err-step-clause-damaged g c = λ t n e.

@@ -1,9 +1,9 @@
 use Rattle.std.proofs.Common.{arith}
 use Rattle.std.proofs.lemmas.Result.{err_from_is_err_and}
-use Rattle.ci_overflow.proofs.Going.{same_fault}
 use Rattle.seq_dependents.specs.Control.{IsKept}
 use Rattle.seq_dependents.proofs.FaultLemmas.{between}
 use Rattle.seq_dependents.proofs.reading.read.Goals as goal
+use Rattle.plain_laws.proofs.Results.{same_fault}
 
 pub returns-in_err-held-clause-damaged : goal.returns-in_err-held-clause-damaged
 returns-in_err-held-clause-damaged g c = λ t n e.

@@ -1,8 +1,8 @@
 use Rattle.std.proofs.Common.{◌≡◌, ◌∙◌, [], get_or, arith}
 use Rattle.std.proofs.lemmas.List.{get_or_default}
-use Rattle.ci_overflow.proofs.Going.{goes_on_joined}
 use Rattle.seq_dependents.proofs.Fillings.{fills_on}
 use Rattle.seq_dependents.proofs.writing.fill.Goals as goal
+use Rattle.ci_space.proofs.GoingLemmas.{goes_on_joined}
 
 pub loop-at-preserved : goal.loop-at-preserved
 loop-at-preserved g c =

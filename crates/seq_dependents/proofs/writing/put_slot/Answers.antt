@@ -1,7 +1,7 @@
 use Rattle.std.proofs.Common.{◌+◌, length, ap, ◌∙◌}
-use Rattle.seq_dependents.proofs.Controls.{on_ok_map}
 use Rattle.seq_dependents.proofs.Writes.{slot_put}
 use Rattle.seq_dependents.proofs.writing.put_slot.Goals as goal
+use Rattle.plain_laws.proofs.Results.{on_ok_map}
 
 pub returns-clause-put : goal.returns-clause-put
 returns-clause-put g c = λ t.

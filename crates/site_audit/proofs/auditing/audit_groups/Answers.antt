@@ -1,4 +1,5 @@
 use Rattle.std.proofs.Common.{◌≡◌, ◌+◌, ◌∙◌, ap, refl, sym, arith, rules, length, subst, List, ℕ}
+use Rattle.fp_lists.proofs.ContinuedLemmas.{continued_both, continued_none}
 use Rattle.std.specs.Prelude.{slice_index}
 use Rattle.fp_audit.specs.Standing.{IsAt, rules_in}
 use Rattle.fp_model.specs.Groups.{HoldsGroups, IsDamaged}
@@ -41,7 +42,7 @@ loop-next-init g c =
       calm = refl;
       only_log = λ set h. (h, λ other. refl);
       read = λ told. omega arith;
-      site = record { later = omega arith; still_told = λ t. t; reference = refl; kept = λ x h. h };
+      site = continued_none g.T.Site.told g.T.Site.faults g.T.Site.holds g.T.Site.keeps c.args.site.now;
     }
 
 pub loop-next-preserved : goal.loop-next-preserved
@@ -85,12 +86,7 @@ loop-next-preserved g c =
           let here : g.T.Site.bytes_read c.audit_group.new.site 0 + c.loop-next.place.at ≡ g.T.Site.bytes_read
           c.loop-next.site 0 + c.in-Some.next.at = rw c.in-Some.is at (c.in_ok-next.ensures.count told) in
           omega (arith, so_far, here);
-      site = record {
-        later = omega (arith, it.site.later, call.site.later);
-        still_told = λ t. call.site.still_told (it.site.still_told t);
-        reference = call.site.reference ∙ it.site.reference;
-        kept = λ x h. call.site.kept x (it.site.kept x h);
-      };
+      site = continued_both g.T.Site.told g.T.Site.faults g.T.Site.holds g.T.Site.keeps _ _ _ it.site call.site;
     }
 
 -- ---- what is read

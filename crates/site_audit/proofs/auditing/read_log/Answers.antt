@@ -14,9 +14,9 @@ use Rattle.log_groups.proofs.Fronts.{same_gate}
 use Rattle.site_audit.specs.inside.Judged.{AreBroken, AreRead}
 use Rattle.site_audit.specs.Legal.{IsIllegalLog, IsLegalLog}
 use Rattle.site_audit.specs.declared.auditing.Place.{Place}
-use Rattle.site_audit.proofs.Judging.{both_ok}
 use Rattle.site_audit.proofs.Logs.{broken_log, illegal_log, legal_log}
 use Rattle.site_audit.proofs.auditing.read_log.Goals as goal
+use Rattle.plain_laws.proofs.Results.{both_ok}
 
 pub returns-clause-legal : goal.returns-clause-legal
 returns-clause-legal g c t =
@@ -35,7 +35,7 @@ returns-clause-legal g c t =
     let begins : IsAt auditor (beginning format (rules_in auditor).start) =
     subst (λ (r : Rules). IsAt auditor (beginning format r.start)) (sym c.in_ok-auditor.ensures.rules)
     (subst (λ (f : ℕ). IsAt auditor (beginning f (start defs))) read_in c.in_ok-auditor.ensures.begins) in
-    let t1 = c.open.ensures.told t in
+    let t1 = c.open.ensures.site.still_told t in
     both_ok c.audit_groups.result (λ (end : Place). AreRead (rules_in auditor) format stands now first end)
     (λ (end : Place). slice_index now end.at ≢ 1)
     (λ (end : Place). end.illegal ≡ None → IsLegalLog defs scripts front old end.entries)
@@ -64,7 +64,7 @@ returns-clause-illegal g c entry t =
     let begins : IsAt auditor (beginning format (rules_in auditor).start) =
     subst (λ (r : Rules). IsAt auditor (beginning format r.start)) (sym c.in_ok-auditor.ensures.rules)
     (subst (λ (f : ℕ). IsAt auditor (beginning f (start defs))) read_in c.in_ok-auditor.ensures.begins) in
-    let t1 = c.open.ensures.told t in
+    let t1 = c.open.ensures.site.still_told t in
     both_ok c.audit_groups.result (λ (end : Place). AreRead (rules_in auditor) format stands now first end)
     (λ (end : Place). slice_index now end.at ≢ 1)
     (λ (end : Place). end.illegal ≡ Some entry → IsIllegalLog defs scripts front old entry)
@@ -90,11 +90,11 @@ returns-clause-damaged g c at t is =
     broken_log defs scripts front old c.in_ok-log.log.front_format c.in_ok-log.ensures.is_format
     (c.in_ok-log.ensures.front t) first (search rules) at
     (subst (λ (l : List ℕ). AreBroken l first at) same
-    (c.audit_groups.ensures.damaged at (c.open.ensures.told t) is))
+    (c.audit_groups.ensures.damaged at (c.open.ensures.site.still_told t) is))
 
 pub returns-clause-stays : goal.returns-clause-stays
 returns-clause-stays g c t =
-    let t1 = c.open.ensures.told t in
+    let t1 = c.open.ensures.site.still_told t in
     stays_then (g.T.Site.disk c.args.site.now) (g.T.Site.disk c.open.new.site)
     (g.T.Site.disk c.audit_groups.new.site) (g.met.T.Site.lawful c.args.site.now t)
     (g.met.T.Site.lawful c.open.new.site t1) (c.open.ensures.stays t) (c.audit_groups.ensures.stays t1)
@@ -123,7 +123,7 @@ returns-in_err-auditor-clause-once g c t told =
 pub returns-clause-once : goal.returns-clause-once
 returns-clause-once g c t told =
     let front = as_front c.args.front.now in
-    let t1 = c.open.ensures.told t in
+    let t1 = c.open.ensures.site.still_told t in
     let old = (g.T.Site.disk c.args.site.now).contents 0 in
     let same = ap (λ (f : ℕ → List ℕ). f 0) (c.open.ensures.stays t).contents in
     let first : c.in_ok-log.log.gate ≡ first_gate front = search rules in

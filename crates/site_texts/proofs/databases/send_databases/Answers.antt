@@ -1,4 +1,5 @@
 use Rattle.std.proofs.Common.{◌≡◌, ◌∙◌, ◌++◌, ◌+◌, ◌<◌, ◌≤◌, ap, refl, sym, subst, arith, rules, length, drop, min, List, [], ℕ}
+use Rattle.fp_lists.proofs.ContinuedLemmas.{continued_both}
 use Rattle.fp_model.specs.declared.database.Msdb.{Msdb}
 use Rattle.fp_show.specs.DbText.{each_text, msdb_text}
 use Rattle.fp_show.proofs.Pairs.{each_done}
@@ -43,12 +44,7 @@ loop-number-preserved g c =
       calm = search rules ∙ it.calm;
       reads = λ set h. let after = call.reads set h in let earlier = it.reads set after.0 in
           (earlier.0, after.1 ∙ earlier.1);
-      site = record {
-        later = omega (arith, it.site.later, call.site.later);
-        still_told = λ t. call.site.still_told (it.site.still_told t);
-        reference = call.site.reference ∙ it.site.reference;
-        kept = λ x h. call.site.kept x (it.site.kept x h);
-      };
+      site = continued_both g.T.Site.told g.T.Site.faults g.T.Site.holds g.T.Site.keeps _ _ _ it.site call.site;
     }
 
 pub returns-in_err-send_held-clause-part : goal.returns-in_err-send_held-clause-part

@@ -26,7 +26,7 @@ returns-in_err-store-clause-damaged g c set at t is =
 pub returns-clause-shown : goal.returns-clause-shown
 returns-clause-shown g c t =
     let call = c.restart.ensures in
-    let t1 = call.told t in
+    let t1 = call.site.still_told t in
     let d0 = g.T.Site.disk c.args.site.now in
     let d2 = g.T.Site.disk c.send_databases.new.site in
     let d1 = g.T.Site.disk c.restart.new.site in
@@ -44,7 +44,7 @@ returns-clause-shown g c t =
 pub returns-clause-sends : goal.returns-clause-sends
 returns-clause-sends g c t =
     let call = c.restart.ensures in
-    let t1 = call.told t in
+    let t1 = call.site.still_told t in
     let d0 = g.T.Site.disk c.args.site.now in
     let d2 = g.T.Site.disk c.send_databases.new.site in
     let d1 = g.T.Site.disk c.restart.new.site in
@@ -62,7 +62,7 @@ returns-clause-sends g c t =
 
 pub returns-clause-rests : goal.returns-clause-rests
 returns-clause-rests g c t =
-    let t1 = c.restart.ensures.told t in
+    let t1 = c.restart.ensures.site.still_told t in
     let d1 = g.T.Site.disk c.restart.new.site in
     let d2 = g.T.Site.disk c.send_databases.new.site in
     let text = msdbs_text c.args.defs.now c.in_ok-store.store.msdbs in
@@ -75,7 +75,7 @@ returns-clause-rests g c t =
 pub returns-clause-means : goal.returns-clause-means
 returns-clause-means g c format scripts entries last t sound history =
     let call = c.restart.ensures in
-    let t1 = call.told t in
+    let t1 = call.site.still_told t in
     let d1 = g.T.Site.disk c.restart.new.site in
     let d2 = g.T.Site.disk c.send_databases.new.site in
     let text = msdbs_text c.args.defs.now c.in_ok-store.store.msdbs in

@@ -1,4 +1,5 @@
 use Rattle.std.proofs.Common.{◌≡◌, ◌∙◌, ◌++◌, ◌+◌, ◌<◌, ◌≤◌, ap, refl, sym, subst, arith, rules, length, drop, get_or, List, [], ◌∷◌, ℕ}
+use Rattle.fp_lists.proofs.ContinuedLemmas.{continued_both, continued_none}
 use Rattle.std.specs.List.{flat_map}
 use Rattle.std.specs.Option.{option_copied}
 use Rattle.std.specs.Prelude.{Some, slice_get}
@@ -22,7 +23,7 @@ loop-place-init g c = record {
       ∙ ap (λ n. c.args.held.now ++ msdb_head c.args.def.now n) (c.count-count.ensures its is));
   calm = refl;
   reads = λ set tells. (tells, refl);
-  site = record { later = omega arith; still_told = λ t. t; reference = refl; kept = λ x h. h };
+  site = continued_none g.T.Site.told g.T.Site.faults g.T.Site.holds g.T.Site.keeps c.args.site.now;
 }
 
 pub unreachable-requires : goal.unreachable-requires
@@ -71,12 +72,7 @@ loop-place-preserved g c =
       calm = c.in_ok-send_large.ensures.cause.stayed ∙ it.calm;
       reads = λ set h. let after = call.reads set h in let earlier = it.reads set after.0 in
           (earlier.0, after.1 ∙ earlier.1);
-      site = record {
-        later = omega (arith, it.site.later, call.site.later);
-        still_told = λ t. call.site.still_told (it.site.still_told t);
-        reference = call.site.reference ∙ it.site.reference;
-        kept = λ x h. call.site.kept x (it.site.kept x h);
-      };
+      site = continued_both g.T.Site.told g.T.Site.faults g.T.Site.holds g.T.Site.keeps _ _ _ it.site call.site;
     }
 
 pub returns-clause-part : goal.returns-clause-part

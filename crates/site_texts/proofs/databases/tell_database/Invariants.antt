@@ -4,7 +4,7 @@ use Rattle.std.specs.Prelude.{Some, slice_get}
 use Rattle.fp_model.specs.declared.database.Msdb.{Msdb}
 use Rattle.fp_show.specs.DbText.{msdb_line, msdb_text}
 use Rattle.fp_site.specs.Site.{ReadsNothing}
-use Rattle.site_texts.specs.Sent.{GoesOn}
+use Rattle.fp_lists.specs.Continued.{IsContinued}
 use Rattle.site_texts.specs.inside.Sent.{IsTold}
 use Rattle.site_texts.proofs.databases.tell_database.Given as goal
 
@@ -17,5 +17,5 @@ invariant-loop-place g l = record {
   calm : g.T.Site.faults l.site ≡ g.T.Site.faults l.fn.site;
   reads : ReadsNothing (g.T.Site.tells_reads l.fn.site) (g.T.Site.tells_reads l.site) (g.T.Site.bytes_read l.fn.site)
       (g.T.Site.bytes_read l.site);
-  site : GoesOn g.T.Site.told g.T.Site.faults g.T.Site.holds g.T.Site.keeps l.fn.site l.site;
+  site : IsContinued g.T.Site.told g.T.Site.faults g.T.Site.holds g.T.Site.keeps l.fn.site l.site;
 }

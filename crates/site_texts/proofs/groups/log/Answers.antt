@@ -28,7 +28,7 @@ begun g c t = record {
 
 pub returns-clause-sends : goal.returns-clause-sends
 returns-clause-sends g c t =
-    let t1 = c.open.ensures.told t in
+    let t1 = c.open.ensures.site.still_told t in
     part_sent (as_front c.args.front.now) c.gate-first.result (g.T.Site.disk c.args.site.now)
     (g.T.Site.disk c.open.new.site)
     (g.T.Site.disk c.send_groups.new.site) (g.met.T.Site.lawful c.args.site.now t)
@@ -37,7 +37,7 @@ returns-clause-sends g c t =
 
 pub returns-clause-shown : goal.returns-clause-shown
 returns-clause-shown g c t =
-    let t1 = c.open.ensures.told t in
+    let t1 = c.open.ensures.site.still_told t in
     on_ok_weaker c.send_groups.result
     (whole_sent (as_front c.args.front.now) c.gate-first.result (g.T.Site.disk c.args.site.now)
     (g.T.Site.disk c.open.new.site) (g.T.Site.disk c.send_groups.new.site) (g.met.T.Site.lawful c.args.site.now t)
@@ -46,7 +46,7 @@ returns-clause-shown g c t =
 
 pub returns-clause-damaged : goal.returns-clause-damaged
 returns-clause-damaged g c set at t is =
-    let t1 = c.open.ensures.told t in
+    let t1 = c.open.ensures.site.still_told t in
     let bad = c.send_groups.ensures.damaged set at t1 is in (
       bad.0,
       damage_sent (as_front c.args.front.now) c.gate-first.result (g.T.Site.disk c.args.site.now)
@@ -69,7 +69,7 @@ returns-in_err-log-clause-once g c t told =
 pub returns-clause-once : goal.returns-clause-once
 returns-clause-once g c t told =
     let front = as_front c.args.front.now in
-    let t1 = c.open.ensures.told t in
+    let t1 = c.open.ensures.site.still_told t in
     let old = (g.T.Site.disk c.args.site.now).contents 0 in
     let same = ap (λ f. f 0) (c.open.ensures.stays t).contents in
     let first : c.gate-first.result ≡ first_gate front = search rules in

@@ -1,4 +1,5 @@
 use Rattle.std.proofs.Common.{◌≡◌, ◌+◌, ◌∙◌, ap, sym, arith, rules, ◌≤◌, length, subst}
+use Rattle.fp_lists.proofs.ContinuedLemmas.{continued_both}
 use Rattle.std.specs.Prelude.{slice_index}
 use Rattle.log_groups.specs.Reads.{HasGroup}
 use Rattle.fp_restart.proofs.Groups.{read_at_most, read_inside}
@@ -56,12 +57,7 @@ loop-next-preserved g c =
           let here : g.T.Site.bytes_read c.send_group.new.site 0 + c.loop-next.place.at ≡ g.T.Site.bytes_read
           c.loop-next.site 0 + c.in-Some.next.at = rw c.in-Some.is at (c.in_ok-next.ensures.count told) in
           omega (arith, so_far, here);
-      site = record {
-        later = omega (arith, it.site.later, call.site.later);
-        still_told = λ t. call.site.still_told (it.site.still_told t);
-        reference = call.site.reference ∙ it.site.reference;
-        kept = λ x h. call.site.kept x (it.site.kept x h);
-      };
+      site = continued_both g.T.Site.told g.T.Site.faults g.T.Site.holds g.T.Site.keeps _ _ _ it.site call.site;
     }
 
 -- ---- what is read

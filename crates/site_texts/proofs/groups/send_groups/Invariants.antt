@@ -1,7 +1,7 @@
 use Rattle.std.proofs.Common.{◌≡◌, ◌+◌, ◌-◌, ◌^◌, ◌≤◌}
 use Rattle.log_groups.specs.Reads.{ReadsOnlyLog}
 use Rattle.site_texts.specs.inside.Groups.{AreSent}
-use Rattle.site_texts.specs.Sent.{GoesOn}
+use Rattle.fp_lists.specs.Continued.{IsContinued}
 use Rattle.site_texts.proofs.groups.send_groups.Given as goal
 
 -- all groups up to this place are sent
@@ -17,7 +17,7 @@ invariant-loop-next g l = record {
       (g.T.Site.bytes_read l.initial.site) (g.T.Site.bytes_read l.site);
   read : g.T.Site.tells_reads l.site 0 → g.T.Site.bytes_read l.site 0 + l.fn.first
       ≡ g.T.Site.bytes_read l.initial.site 0 + l.place.at;
-  site : GoesOn g.T.Site.told g.T.Site.faults g.T.Site.holds g.T.Site.keeps l.initial.site l.site;
+  site : IsContinued g.T.Site.told g.T.Site.faults g.T.Site.holds g.T.Site.keeps l.initial.site l.site;
 }
 
 abbrev pub decreases-loop-next : goal.decreases-loop-next

@@ -13,7 +13,7 @@ add-requires c = record {
 }
 
 pub returns-then-not-is_ascii-clause-err : goal.returns-then-not-is_ascii-clause-err
-returns-then-not-is_ascii-clause-err c = line_foreign c.args.defs.now (context_of c.args.builder) c.args.number
+returns-then-not-is_ascii-clause-err c = λ other. line_foreign c.args.defs.now (context_of c.args.builder) c.args.number
     c.args.bytes.now (sym c.is_ascii.ensures ∙ c.if-not-is_ascii.true)
 
 pub returns-then-is_skipped-clause-ok : goal.returns-then-is_skipped-clause-ok

@@ -2,9 +2,9 @@ use Rattle.std.proofs.Common.{◌∙◌, sym, ap, arith, ◌++◌, length-append
 use Rattle.fp_model.specs.Messages.{lines_of}
 use Rattle.txn_lang.specs.Grammar.{text_in}
 use Rattle.txn_lang.specs.inside.Building.{context_of}
-use Rattle.txn_tokens.proofs.ReadingLemmas.{is_nil}
 use Rattle.txn_lang.proofs.TextLemmas.{line_more, line_refused, lines_done}
 use Rattle.txn_lang.proofs.reader.read_lines.Goals as goal
+use Rattle.plain_laws.proofs.Lists.{is_nil}
 
 pub returns-in-Err-clause-err : goal.returns-in-Err-clause-err
 returns-in-Err-clause-err c =

@@ -1,7 +1,8 @@
 use Rattle.std.proofs.Common.{◌≡◌, ◌+◌, ◌≤◌, length, List}
 use Rattle.fp_model.specs.Messages.{lines_of}
 use Rattle.txn_lang.specs.declared.line.Line.{Line}
-use Rattle.txn_lang.specs.Grammar.{in_front, lines_in, text_in}
+use Rattle.txn_lang.specs.Grammar.{lines_in, text_in}
+use Rattle.txn_lang.proofs.TextLemmas.{in_front}
 use Rattle.txn_lang.specs.inside.Building.{IsBuilt, context_of}
 use Rattle.txn_lang.proofs.reader.read_lines.Given as goal
 

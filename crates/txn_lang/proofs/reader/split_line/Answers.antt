@@ -4,9 +4,10 @@ use Rattle.std.proofs.lemmas.List.{take_all}
 use Rattle.std.proofs.lemmas.Iterator.{YieldsList-from_slice}
 use Rattle.std.proofs.lemmas.Iterator.Search.{position_from_yields_List}
 use Rattle.std.proofs.lemmas.Grind.{common_steps}
-use Rattle.txn_tokens.proofs.Runs.{place_is, place_within, whole_is}
+use Rattle.txn_tokens.proofs.Runs.{place_within}
 use Rattle.txn_lang.proofs.TextLemmas.{lines_first, lines_last}
 use Rattle.txn_lang.proofs.reader.split_line.Goals as goal
+use Rattle.plain_laws.proofs.Places.{place_is, whole_is}
 
 pub returns-in-Some-clause-lines : goal.returns-in-Some-clause-lines
 returns-in-Some-clause-lines c =

@@ -3,8 +3,9 @@ use Rattle.std.proofs.lemmas.Result.{err_from_is_err_and}
 use Rattle.std.specs.Vec.Iter.{into_iter_items}
 use Rattle.txn_tokens.specs.Lookups.{dedb_ssas}
 use Rattle.txn_tokens.proofs.ReadingLemmas.{with_nothing}
-use Rattle.txn_tokens.proofs.LookupLemmas.{nil_by_length, dedb_goes, dedb_fails, dedb_done}
+use Rattle.txn_tokens.proofs.LookupLemmas.{dedb_goes, dedb_fails, dedb_done}
 use Rattle.txn_tokens.proofs.lookups.dedb_ssas.Goals as goal
+use Rattle.plain_laws.proofs.Lists.{nil_by_length}
 
 pub loop-ssa-init : goal.loop-ssa-init
 loop-ssa-init c = record {

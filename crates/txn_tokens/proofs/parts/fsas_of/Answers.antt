@@ -2,9 +2,10 @@ use Rattle.std.proofs.Common.{◌∙◌, ◌<◌, length, sym}
 use Rattle.std.proofs.lemmas.Result.{err_from_is_err_and}
 use Rattle.txn_tokens.specs.Readings.{all_by}
 use Rattle.txn_tokens.specs.Parts.{fsa_at}
-use Rattle.txn_tokens.proofs.ReadingLemmas.{with_nothing, goes_on, fails, is_done, is_some, is_nil, shorter_at}
+use Rattle.txn_tokens.proofs.ReadingLemmas.{with_nothing, goes_on, fails, is_done, shorter_at}
 use Rattle.txn_tokens.proofs.PartLemmas.{fsa_shrinks}
 use Rattle.txn_tokens.proofs.parts.fsas_of.Goals as goal
+use Rattle.plain_laws.proofs.Lists.{is_nil, some_first}
 
 pub loop-rest-init : goal.loop-rest-init
 loop-rest-init c = rw (c.new-fsas.ensures) (with_nothing (all_by fsa_at c.args.tokens.now))
@@ -12,7 +13,7 @@ loop-rest-init c = rw (c.new-fsas.ensures) (with_nothing (all_by fsa_at c.args.t
 pub returns-in_err-fsa : goal.returns-in_err-fsa
 returns-in_err-fsa c =
     let p = err_from_is_err_and c.from_residual.result c.from_residual.ensures.1 in
-    let some : 0 < length c.loop-rest.rest.now = is_some c.loop-rest.rest.now
+    let some : 0 < length c.loop-rest.rest.now = some_first c.loop-rest.rest.now
     (sym c.is_empty.ensures ∙ c.loop-rest-test.true) in
     rw (p.1, p.2) (fails fsa_at fsa_shrinks c.in_err-fsa.field-0.0 c.loop-rest.fsas c.loop-rest.rest.now
     (all_by fsa_at c.args.tokens.now) some c.in_err-fsa.ensures c.loop-rest.invariant)

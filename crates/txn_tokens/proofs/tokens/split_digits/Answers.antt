@@ -3,9 +3,10 @@ use Rattle.std.proofs.lemmas.List.{take_all}
 use Rattle.std.proofs.lemmas.Iterator.{YieldsList-from_slice}
 use Rattle.std.proofs.lemmas.Iterator.Search.{position_from_yields_List}
 use Rattle.std.proofs.lemmas.Grind.{common_steps}
-use Rattle.txn_tokens.specs.Tokens.{is_digit}
-use Rattle.txn_tokens.proofs.Runs.{place_is, whole_is, behind_is, behind_none}
+use Rattle.std.specs.Char.{is_ascii_digit as is_digit}
+use Rattle.txn_tokens.proofs.Runs.{behind_is, behind_none}
 use Rattle.txn_tokens.proofs.tokens.split_digits.Goals as goal
+use Rattle.plain_laws.proofs.Places.{place_is, whole_is}
 
 pub returns-in-Some-clause-front : goal.returns-in-Some-clause-front
 returns-in-Some-clause-front c =

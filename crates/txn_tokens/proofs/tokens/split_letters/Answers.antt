@@ -4,8 +4,9 @@ use Rattle.std.proofs.lemmas.Iterator.{YieldsList-from_slice}
 use Rattle.std.proofs.lemmas.Iterator.Search.{position_from_yields_List}
 use Rattle.std.proofs.lemmas.Grind.{common_steps}
 use Rattle.fp_model.specs.Names.{is_letter_or_digit}
-use Rattle.txn_tokens.proofs.Runs.{place_is, whole_is, behind_is, behind_none}
+use Rattle.txn_tokens.proofs.Runs.{behind_is, behind_none}
 use Rattle.txn_tokens.proofs.tokens.split_letters.Goals as goal
+use Rattle.plain_laws.proofs.Places.{place_is, whole_is}
 
 pub returns-in-Some-clause-front : goal.returns-in-Some-clause-front
 returns-in-Some-clause-front c =

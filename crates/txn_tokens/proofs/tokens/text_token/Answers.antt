@@ -4,22 +4,23 @@ use Rattle.std.proofs.lemmas.List.{take_all, length-take, length-take-le}
 use Rattle.std.proofs.lemmas.Iterator.{YieldsList-from_slice}
 use Rattle.std.proofs.lemmas.Iterator.Search.{position_from_yields_List}
 use Rattle.std.proofs.lemmas.Grind.{common_steps}
-use Rattle.txn_tokens.proofs.Runs.{place_is, place_within, whole_is}
+use Rattle.txn_tokens.proofs.Runs.{place_within}
 use Rattle.txn_tokens.proofs.TokenLemmas.{text_open, text_long, text_unprintable, text_good}
 use Rattle.txn_tokens.proofs.tokens.text_token.Goals as goal
+use Rattle.plain_laws.proofs.Places.{place_is, whole_is}
 
 pub returns-in-None : goal.returns-in-None
 returns-in-None c =
     let found = position_from_yields_List (λ b. b == 39) _ _ c.position.result c.position.ensures.ran
     (YieldsList-from_slice c.args.bytes.now cc) (λ x b q k. search (rules, tests)) in
-    text_open c.args.bytes.now (whole_is (λ b. b == 39) c.args.bytes.now (sym found ∙ c.in-None.is))
+    λ other. text_open c.args.bytes.now (whole_is (λ b. b == 39) c.args.bytes.now (sym found ∙ c.in-None.is))
 
 pub returns-then-text-gt-LONGEST_TEXT : goal.returns-then-text-gt-LONGEST_TEXT
 returns-then-text-gt-LONGEST_TEXT c =
     let found = position_from_yields_List (λ b. b == 39) _ _ c.position.result c.position.ensures.ran
     (YieldsList-from_slice c.args.bytes.now cc) (λ x b q k. search (rules, tests)) in
     let e = sym found ∙ c.in-Some.is in
-    text_long c.args.bytes.now c.in-Some.place (place_within (λ b. b == 39) c.args.bytes.now c.in-Some.place e)
+    λ other. text_long c.args.bytes.now c.in-Some.place (place_within (λ b. b == 39) c.args.bytes.now c.in-Some.place e)
     (place_is (λ b. b == 39) c.args.bytes.now c.in-Some.place e)
     (omega (arith, c.if-text-gt-LONGEST_TEXT.true, length-take c.in-Some.place c.args.bytes.now))
 
@@ -28,7 +29,8 @@ returns-then-not-is_printable c =
     let found = position_from_yields_List (λ b. b == 39) _ _ c.position.result c.position.ensures.ran
     (YieldsList-from_slice c.args.bytes.now cc) (λ x b q k. search (rules, tests)) in
     let e = sym found ∙ c.in-Some.is in
-    text_unprintable c.args.bytes.now c.in-Some.place (place_within (λ b. b == 39) c.args.bytes.now c.in-Some.place e)
+    λ other. text_unprintable c.args.bytes.now c.in-Some.place
+    (place_within (λ b. b == 39) c.args.bytes.now c.in-Some.place e)
     (place_is (λ b. b == 39) c.args.bytes.now c.in-Some.place e)
     (sym c.is_printable.ensures ∙ c.if-not-is_printable.true)
 

@@ -15,12 +15,12 @@ returns-in_err-may_grow-clause-goes_on g c =
     let look = c.may_grow.ensures.looks in
     record {
       tells = λ told. (
-        look.tells told.0,
+        look.continued.still_told told.0,
         told_looked g.T.Site.told g.T.Site.disk g.T.Site.faults g.T.Site.holds g.T.Site.keeps s.set s.size s.site.now
             c.may_grow.new.site s.pool.now c.may_grow.new.pool look told.0 told.1,
       );
       same_size = refl;
-      later = look.later;
+      later = look.continued.later;
       known = λ first k. (
         k.0,
         k.1,
@@ -44,12 +44,12 @@ returns-in_err-interval-clause-goes_on g c =
     let look = c.may_grow.ensures.looks in
     record {
       tells = λ told. (
-        look.tells told.0,
+        look.continued.still_told told.0,
         told_looked g.T.Site.told g.T.Site.disk g.T.Site.faults g.T.Site.holds g.T.Site.keeps s.set s.size s.site.now
             c.may_grow.new.site s.pool.now c.may_grow.new.pool look told.0 told.1,
       );
       same_size = refl;
-      later = look.later;
+      later = look.continued.later;
       known = λ first k. (
         k.0,
         k.1,
@@ -79,12 +79,12 @@ returns-in-Err-clause-goes_on g c =
     let look = c.may_grow.ensures.looks in
     record {
       tells = λ told. (
-        look.tells told.0,
+        look.continued.still_told told.0,
         told_looked g.T.Site.told g.T.Site.disk g.T.Site.faults g.T.Site.holds g.T.Site.keeps s.set s.size s.site.now
             c.may_grow.new.site s.pool.now c.may_grow.new.pool look told.0 told.1,
       );
       same_size = refl;
-      later = look.later;
+      later = look.continued.later;
       known = λ first k. (
         k.0,
         k.1,
@@ -130,12 +130,12 @@ returns-clause-goes_on g c =
     let look = c.may_grow.ensures.looks in
     record {
       tells = λ told. (
-        look.tells told.0,
+        look.continued.still_told told.0,
         told_looked g.T.Site.told g.T.Site.disk g.T.Site.faults g.T.Site.holds g.T.Site.keeps s.set s.size s.site.now
             c.may_grow.new.site s.pool.now c.may_grow.new.pool look told.0 told.1,
       );
       same_size = refl;
-      later = look.later;
+      later = look.continued.later;
       known = λ first k. (
         k.0,
         k.1,

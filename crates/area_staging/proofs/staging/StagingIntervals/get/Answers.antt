@@ -38,12 +38,12 @@ returns-clause-goes_on g c =
     let none : get nat_cmp s.staged c.args.ci ≡ None = search rules in
     record {
       tells = λ told. (
-        look.tells told.0,
+        look.continued.still_told told.0,
         told_looked g.T.Site.told g.T.Site.disk g.T.Site.faults g.T.Site.holds g.T.Site.keeps s.set s.size s.site.now
             c.interval_at.new.site s.pool.now c.interval_at.new.pool look told.0 told.1,
       );
       same_size = refl;
-      later = look.later;
+      later = look.continued.later;
       known = λ first k. (
         k.0,
         k.1,

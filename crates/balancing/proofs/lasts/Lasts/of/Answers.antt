@@ -4,10 +4,11 @@ use Rattle.fp_model.specs.Lasts.{last_of}
 use Rattle.balancing.specs.Numbered.{as_last, lasts_in}
 use Rattle.balancing.specs.inside.Numbered.{IsPlaced}
 use Rattle.balancing.specs.declared.lasts.Place.TheVariants.{Stands, Lacks}
-use Rattle.key_order.proofs.Ascending.{IsAscending, found_at, found_there, some_is}
+use Rattle.key_order.proofs.Ascending.{IsAscending, found_at, found_there}
 use Rattle.balancing.proofs.LastLemmas.{by_parts, key, there}
-use Rattle.balancing.proofs.NameLemmas.{same_names}
 use Rattle.balancing.proofs.lasts.Lasts.of.Goals as goal
+use Rattle.model_laws.proofs.Texts.{same_names}
+use Rattle.std.proofs.lemmas.Option.{same_Some}
 
 pub returns-in-Stands-clause-some : goal.returns-in-Stands-clause-some
 returns-in-Stands-clause-some c =
@@ -20,7 +21,7 @@ returns-in-Stands-clause-some c =
     let here : slice_get (lasts_in handles) at ≡ Some (as_last c.index-kept.result.now.value) =
     there handles at c.index-kept.result.now (omega (arith, lt))
     ∙ ap (λ b. Some (as_last b.value)) (sym c.index-kept.ensures) in
-    let is : p.1 ≡ as_last c.index-kept.result.now.value = some_is _ _ (sym p.2 ∙ here) in
+    let is : p.1 ≡ as_last c.index-kept.result.now.value = same_Some _ _ (sym p.2 ∙ here) in
     ap (λ s. last_of c.args.lterm.now s.terminals) (sym c.self.view_is)
     ∙ found_there key c.args.lterm.now.0 (lasts_in handles) at p.1 p.0 c.self.invariant.0 p.2 p.3
     ∙ ap Some is

@@ -4,8 +4,9 @@ use Rattle.fp_model.specs.Exits.{route}
 use Rattle.fp_model.specs.Machine.{queued_at}
 use Rattle.balancing.specs.Backlog.{group_for, spelled}
 use Rattle.balancing.proofs.NameLemmas.{all_put, put_last}
-use Rattle.balancing.proofs.QueueLemmas.{on_err, queued, set_kept}
+use Rattle.balancing.proofs.QueueLemmas.{queued, set_kept}
 use Rattle.balancing.proofs.queues.Queues.offer.Goals as goal
+use Rattle.plain_laws.proofs.Results.{on_err}
 
 -- the room that was made isn't seen
 pub returns-in_err-reserve-clause-err : goal.returns-in_err-reserve-clause-err

@@ -1,5 +1,5 @@
 use Rattle.std.proofs.Common.{arith, ◌≡◌, ◌∙◌, ◌≤◌, ℕ, List, length, sym, subst}
-use Rattle.std.specs.Prelude.{Contains, Err, IfOk, Ok, OnErr, Result}
+use Rattle.std.specs.Prelude.{Contains, Err, IfOk, Ok, Result}
 use Rattle.fp_model.specs.Waiting.{Lock, waits, with_request}
 use Rattle.ci_locks.specs.Cycles.{IsFirstCycle, first_cycle}
 use Rattle.ci_locks.specs.inside.Regions.{standing_of}
@@ -9,14 +9,8 @@ use Rattle.ci_locks.specs.declared.locks.Grant.TheVariants as grant
 use Rattle.ci_locks.proofs.Bridge.{long_rows, rows_long, shows_code, shows_rows, standing_is, stands}
 use Rattle.ci_locks.proofs.Firsts.{is_first_cycle}
 use Rattle.ci_locks.proofs.locks.Locks.ask.Goals as goal
-
-if_ok : {A E : Type 0} (P Q : A → Type 0) (r : Result A E) → ((a : A) → P a → Q a) → IfOk r P → IfOk r Q
-if_ok P Q (Ok a) f p = f a p
-if_ok P Q (Err e) f p = tt
-
-on_err : {A E P Q : Type 0} (r : Result A E) → (P → Q) → OnErr r P → OnErr r Q
-on_err (Ok a) f p = tt
-on_err (Err e) f p = f p
+use Rattle.plain_laws.proofs.Results.{if_ok_by}
+use Rattle.std.proofs.lemmas.Result.{on_err_weaker}
 
 named : {E : Type 0} (regions : ℕ) (locks requests : List Lock) (wanted : Lock)
     → ((lock : Lock) → Contains locks lock → (1 ≤ lock.region) × (lock.region ≤ regions))
@@ -71,7 +65,7 @@ returns-clause-named c locks requests shows =
 pub returns-clause-after : goal.returns-clause-after
 returns-clause-after c locks requests shows =
     let wanted : Lock = record { region = c.args.region; resource = c.args.resource.now; mode = c.args.mode } in
-    if_ok (λ (grant : Grant). Shows (standing_of c.ask.new.self) (locks_after grant wanted locks)
+    if_ok_by (λ (grant : Grant). Shows (standing_of c.ask.new.self) (locks_after grant wanted locks)
     (requests_after grant wanted requests)) _ c.ask.result
     (λ grant after. shows_rows c.ask.new.self (locks_after grant wanted locks) (requests_after grant wanted requests)
     c.ask.ensures.sound after)
@@ -84,5 +78,5 @@ returns-clause-regions c = rows_long c.ask.new.self.holdings 0 c.ask.new.self.re
 
 pub returns-clause-err : goal.returns-clause-err
 returns-clause-err c =
-    on_err c.ask.result (λ same. standing_is c.ask.new.self c.ask.ensures.sound ∙ same ∙ stands c.self.inside.state
+    on_err_weaker c.ask.result (λ same. standing_is c.ask.new.self c.ask.ensures.sound ∙ same ∙ stands c.self.inside.state
     c.args.self.now c.self.invariant c.self.view_is) c.ask.ensures.err

@@ -1,5 +1,5 @@
 use Rattle.std.proofs.Common.{refl, arith, ◌≡◌, ◌∙◌, ◌++◌, ◌∷◌, [], ◌<◌, ◌-◌, ℕ, List, suc, length, None, ap, sym, subst}
-use Rattle.std.specs.Prelude.{Contains, Err, Ok, OnErr, Result}
+use Rattle.std.specs.Prelude.{Contains}
 use Rattle.std.specs.Vec.{with_item, with_items}
 use Rattle.fp_model.specs.declared.calls.Resource.{Resource}
 use Rattle.ci_locks.specs.declared.state.News.{News}
@@ -12,10 +12,7 @@ use Rattle.ci_locks.specs.inside.Regions.{AreTold}
 use Rattle.ci_locks.proofs.Regions.{at_old}
 use Rattle.ci_locks.proofs.Sounds.{contains_end, contains_more, gains_now, gains_sound, lists_sound, lists_stand}
 use Rattle.ci_locks.proofs.state.State.gain.Goals as goal
-
-on_err : {A E P : Type 0} (r : Result A E) → P → OnErr r P
-on_err (Ok x) p = tt
-on_err (Err e) p = p
+use Rattle.plain_laws.proofs.Results.{on_err}
 
 pub returns-clause-ok : goal.returns-clause-ok
 returns-clause-ok c =

@@ -5,8 +5,9 @@ use Rattle.lru.specs.LruCache.{LruCache}
 use Rattle.fp_site.specs.Disk.{read_range}
 use Rattle.ci_pool.specs.Cells.{cell_at, is_key}
 use Rattle.ci_pool.specs.Held.{Held, pending_at, clean_at, waiting_of, bytes_of, bytes_or, held_at, first_of, newest_in, interval_in, IsClean, IsPool, HasSize}
-use Rattle.ci_pool.proofs.Pools.{by_if, if_ok, nothing_pending, not_held, unstaged_none, listed, pool_used, clean_used, size_used}
+use Rattle.ci_pool.proofs.Pools.{by_if, nothing_pending, not_held, unstaged_none, listed, pool_used, clean_used, size_used}
 use Rattle.ci_pool.proofs.pool.Pool.get.Goals as goal
+use Rattle.plain_laws.proofs.Results.{if_ok_with}
 
 abbrev List_of : Type 0
 List_of = LruCache (ℕ × ℕ) (List ℕ)
@@ -33,7 +34,7 @@ returns-then-contains-clause-newest g c told clean sized =
     ap (λ cs. waiting_of (cell_at c.args.set c.args.ci cs)) (sym cells) ∙ waits in
     let site : newest_in c.args.self.now old c.args.set c.args.ci c.args.size ≡ interval_in old c.args.set c.args.ci
     c.args.size = ap (λ o. bytes_or (bytes_of o) (interval_in old c.args.set c.args.ci c.args.size)) none in
-    if_ok c.use_again.result _ (λ bytes. bytes ≡ newest_in c.args.self.now old c.args.set c.args.ci c.args.size)
+    if_ok_with c.use_again.result _ (λ bytes. bytes ≡ newest_in c.args.self.now old c.args.set c.args.ci c.args.size)
     c.use_again.ensures.ok
     (λ v is.
     let there : Contains c.args.self.now.clean ((c.args.set, c.args.ci), v) =

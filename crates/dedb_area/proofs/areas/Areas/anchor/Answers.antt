@@ -10,10 +10,11 @@ use Rattle.area_laws.specs.Areas.{AreSentTo}
 use Rattle.dedb_area.specs.Anchors.{AnchorIsAtHand, AreInTime, AreRootsOf, HasAnchorIn, IsDamagedFor}
 use Rattle.dedb_area.specs.Looking.{LooksAtAreas}
 use Rattle.dedb_area.specs.Standing.{AreasStand, Holding}
-use Rattle.dedb_area.proofs.AnchorLemmas.{at_hand_here, by_ok, damage_here, none_faulty, roots_are, roots_here}
+use Rattle.dedb_area.proofs.AnchorLemmas.{at_hand_here, damage_here, none_faulty, roots_are, roots_here}
 use Rattle.dedb_area.proofs.Sent.{sent_here}
 use Rattle.dedb_area.proofs.Looks.{areas_looked}
 use Rattle.dedb_area.proofs.areas.Areas.anchor.Goals as goal
+use Rattle.plain_laws.proofs.Results.{if_ok_with}
 
 pub returns-clause-roots : goal.returns-clause-roots
 returns-clause-roots g c = λ told way bytes stands.
@@ -39,7 +40,7 @@ returns-clause-database g c = λ told way bytes db stands are.
     let is = subst (λ l. place_at l set ≡ Some place) c.deref-places.ensures.value c.place_in-place.ensures in
     let now = subst (λ (h : Holding). AreasStand way bytes (g.T.Site.disk c.args.site.now) h) (sym c.self.view_is) stands in
     let are2 = subst (λ (h : Holding). AreFor h.places (behind way.unsealed bytes) db) (sym c.self.view_is) are in
-    by_ok c.roots_at.result (AreRootsOf places (behind way.unsealed bytes) c.args.dedb c.args.anchor)
+    if_ok_with c.roots_at.result (AreRootsOf places (behind way.unsealed bytes) c.args.dedb c.args.anchor)
     (λ roots. roots ≡ roots_at db c.args.dedb c.args.anchor)
     (roots_here way bytes (g.T.Site.disk c.args.site.now) _ c.args.dedb c.args.anchor set place now has is
     c.roots_at.result (c.roots_at.ensures.roots told))
@@ -52,7 +53,7 @@ returns-clause-sent g c = λ told way bytes defs db def stands e are shaped defi
     c.area_of-set.ensures in
     let there : place_at (places_of defs) set ≡ Some has.place =
     ap (λ ps. place_at ps set) (sym e ∙ ap (λ (h : Holding). h.places) (sym c.self.view_is)) ∙ has.is.is_place in
-    by_ok c.roots_at.result (λ roots. roots ≡ roots_at db c.args.dedb c.args.anchor) (AreSentTo def c.args.anchor)
+    if_ok_with c.roots_at.result (λ roots. roots ≡ roots_at db c.args.dedb c.args.anchor) (AreSentTo def c.args.anchor)
     (returns-clause-database g c told way bytes db stands are)
     (λ roots same. subst (AreSentTo def c.args.anchor) (sym same)
     (sent_here defs set has.place db def c.args.dedb c.args.anchor has.number shaped there defined has.is.lies))

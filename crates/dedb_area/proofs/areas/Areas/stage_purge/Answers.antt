@@ -2,7 +2,6 @@ use Rattle.std.proofs.Common.{◌≡◌, ◌∙◌, [], refl, sym, subst, length
 use Rattle.std.specs.Prelude.{None, Some, IfOk}
 use Rattle.std.specs.List.{AllByRecursion}
 use Rattle.std.proofs.lemmas.Result.{err_from_is_err_and}
-use Rattle.root_anchor.proofs.Exits.{same_fault}
 use Rattle.held_intervals.specs.Holding.{held_or}
 use Rattle.area_redo.specs.Redo.{redone}
 use Rattle.area_redo.specs.Standing.{behind}
@@ -18,16 +17,16 @@ use Rattle.dedb_area.specs.Purging.{IsPurgeStaged, IsPurged, MayPurge}
 use Rattle.dedb_area.specs.Standing.{AreasStand, Holding, IsUnstaged}
 use Rattle.dedb_area.specs.declared.fault.AreaFault.TheVariants as fault
 use Rattle.dedb_area.specs.Committing.{IsFitItem}
-use Rattle.dedb_area.proofs.AnchorLemmas.{by_ok, shows, within_areas}
+use Rattle.dedb_area.proofs.AnchorLemmas.{shows, within_areas}
 use Rattle.dedb_area.proofs.Fitting.{defined_items}
 use Rattle.dedb_area.proofs.StagedAreas.{fit_more_items}
-use Rattle.dedb_area.proofs.StagedPurge.{at_err, none_staged, others_stay, purge_none, purge_staged, stages_here, stages_none, stands_then, still_unstaged}
-use Rattle.dedb_area.proofs.StageLemmas.{on_ok}
+use Rattle.dedb_area.proofs.StagedPurge.{none_staged, others_stay, purge_none, purge_staged, stages_here, stages_none, stands_then, still_unstaged}
 use Rattle.dedb_area.proofs.Looks.{areas_looked}
 use Rattle.dedb_area.proofs.PurgeDatabases.{purge_places}
 use Rattle.dedb_area.proofs.PurgeEntry.{enters_purge}
 use Rattle.dedb_area.proofs.PurgeItems.{staged_by}
 use Rattle.dedb_area.proofs.areas.Areas.stage_purge.Goals as goal
+use Rattle.plain_laws.proofs.Results.{at_err, at_ok, if_ok_with, same_fault}
 
 pub returns-in_err-old-clause-damaged : goal.returns-in_err-old-clause-damaged
 returns-in_err-old-clause-damaged g c = λ told way bytes p s at stands there e may.
@@ -113,7 +112,7 @@ returns-clause-sound g c = λ told way bytes p stands there.
     let there2 = subst (λ (h : Holding). place_at h.places c.args.set ≡ Some p) (sym c.self.view_is) there in
     let both : Some place ≡ Some p = sym is ∙ there2 in
     let same : place ≡ p = cc in
-    on_ok c.stage_control.result (MayPurge p (behind way.unsealed bytes c.args.set 0))
+    at_ok c.stage_control.result (MayPurge p (behind way.unsealed bytes c.args.set 0))
     (subst (λ (q : Place). MayPurge q (behind way.unsealed bytes c.args.set 0)) same
     (c.in_ok-old.ensures.sound told (behind way.unsealed bytes c.args.set) shown))
 
@@ -237,7 +236,7 @@ returns-in-None-clause-staged g c = λ told way bytes stands.
 
 pub returns-clause-staged : goal.returns-clause-staged
 returns-clause-staged g c = λ told way bytes stands.
-    by_ok c.stage_control.result (IsPurgeStaged c.args.n c.args.set (is_imaged c.args.self.now.imaged c.args.set 0)
+    if_ok_with c.stage_control.result (IsPurgeStaged c.args.n c.args.set (is_imaged c.args.self.now.imaged c.args.set 0)
     (behind way.unsealed bytes c.args.set 0) c.stage_control.new.pool)
     (λ item. AreStagedBy (items_in item) (behind way.unsealed bytes) c.stage_control.new.pool)
     (returns-clause-purged g c told way bytes stands)
@@ -257,7 +256,7 @@ returns-clause-enters g c = λ told way bytes stands.
     let place = c.place_in-place.result.now in
     let is = subst (λ l. place_at l c.args.set ≡ Some place) c.deref-places.ensures.value c.place_in-place.ensures in
     let there = subst (λ (h : Holding). place_at h.places c.args.set ≡ Some place) c.self.view_is is in
-    by_ok c.stage_control.result (IsPurgeStaged c.args.n c.args.set (is_imaged c.args.self.now.imaged c.args.set 0)
+    if_ok_with c.stage_control.result (IsPurgeStaged c.args.n c.args.set (is_imaged c.args.self.now.imaged c.args.set 0)
     (behind way.unsealed bytes c.args.set 0) c.stage_control.new.pool)
     (λ item. MayEnter way bytes c.args.self.now (items_in item))
     (returns-clause-purged g c told way bytes stands)
@@ -271,14 +270,14 @@ returns-clause-fit g c =
     let long : length c.in-Some.new ≡ place.shape.ci = c.in_ok-old.ensures.new_size c.in-Some.new c.in-Some.is in
     subst (λ (h : Holding). IfOk c.stage_control.result (λ item. AllByRecursion (IsFitItem h.places) (items_in item)))
     c.self.view_is
-    (by_ok c.stage_control.result (λ item. AllByRecursion (IsFitFor c.args.set (length c.in-Some.new)) (items_in item))
+    (if_ok_with c.stage_control.result (λ item. AllByRecursion (IsFitFor c.args.set (length c.in-Some.new)) (items_in item))
     (λ item. AllByRecursion (IsFitItem c.self.inside.places.items) (items_in item)) c.stage_control.ensures.fit
     (λ item fit. fit_more_items c.self.inside.places.items c.args.set place [] (items_in item) is tt
     (subst (λ n. AllByRecursion (IsFitFor c.args.set n) (items_in item)) long fit)))
 
 pub returns-clause-defined : goal.returns-clause-defined
 returns-clause-defined g c = λ defs e.
-    by_ok c.stage_control.result (λ item. AllByRecursion (IsFitItem c.args.self.now.places) (items_in item))
+    if_ok_with c.stage_control.result (λ item. AllByRecursion (IsFitItem c.args.self.now.places) (items_in item))
     (λ item. AllByRecursion (IsFit defs) (items_in item)) (returns-clause-fit g c)
     (λ item fit. defined_items defs c.args.self.now.places (items_in item) e fit)
 
@@ -292,7 +291,7 @@ returns-in-None-clause-databases g c = λ told way bytes defs db next stands e a
 pub returns-clause-databases : goal.returns-clause-databases
 returns-clause-databases g c = λ told way bytes defs db next stands e are shaped is.
     let good = subst (λ (h : Holding). ArePlaces h.places) c.self.view_is c.self.invariant.1 in
-    by_ok c.stage_control.result (IsPurgeStaged c.args.n c.args.set (is_imaged c.args.self.now.imaged c.args.set 0)
+    if_ok_with c.stage_control.result (IsPurgeStaged c.args.n c.args.set (is_imaged c.args.self.now.imaged c.args.set 0)
     (behind way.unsealed bytes c.args.set 0) c.stage_control.new.pool)
     (λ item. AreFor c.args.self.now.places (redone (items_in item) (behind way.unsealed bytes)) next)
     (returns-clause-purged g c told way bytes stands)

@@ -3,10 +3,10 @@ use Rattle.std.specs.Prelude.{IsSome, Some}
 use Rattle.ci_pool.specs.Held.{pending_at}
 use Rattle.dedb_area.specs.Standing.{Holding}
 use Rattle.dedb_area.specs.Keeping.{KeepsAreas}
-use Rattle.area_staging.proofs.Data.{there}
 use Rattle.dedb_area.proofs.Owing.{by_both}
 use Rattle.dedb_area.proofs.Writes.{Wrote, keeps_written}
 use Rattle.dedb_area.proofs.areas.Areas.write.Goals as goal
+use Rattle.plain_laws.proofs.Options.{some_value}
 
 pub returns-clause-keeps_areas : goal.returns-clause-keeps_areas
 returns-clause-keeps_areas g c told way bytes sealed =
@@ -14,7 +14,7 @@ returns-clause-keeps_areas g c told way bytes sealed =
     let after = c.write_one.new.self in
     let old = g.T.Site.disk c.args.site.now in
     let new = g.T.Site.disk c.write_one.new.site in
-    let w = there (pending_at pool c.args.set c.args.ci)
+    let w = some_value (pending_at pool c.args.set c.args.ci)
     (subst (λ (h : Holding). IsSome (pending_at h.pool c.args.set c.args.ci)) (sym c.self.view_is) c.requires) in
     let below = sealed w.0 (subst (λ (h : Holding). pending_at h.pool c.args.set c.args.ci ≡ Some w.0) c.self.view_is
     w.1) in
@@ -29,6 +29,6 @@ returns-clause-keeps_areas g c told way bytes sealed =
     })) c.self.view_is
     (keeps_written c.self.inside.places.items c.self.inside.unsynced.items c.note_write.new.unsynced.items pool after c.args.set
     c.args.ci w.0 old new w.1 c.self.invariant.1 (g.met.T.Site.lawful c.args.site.now told)
-    (g.met.T.Site.lawful c.write_one.new.site (c.write_one.ensures.told told)) c.note_write.ensures.noted
+    (g.met.T.Site.lawful c.write_one.new.site (c.write_one.ensures.site.still_told told)) c.note_write.ensures.noted
     (c.write_one.ensures.crash told w.0 w.1) (c.write_one.ensures.leaves told) (c.write_one.ensures.clean told)
     c.write_one.ensures.sizes c.write_one.ensures.staged how c.self.inside.imaged.items way bytes below)

@@ -1,5 +1,6 @@
 use Rattle.std.proofs.Common.{◌≡◌, [], length}
 use Rattle.fp_site.specs.Site.{ReadsNothing}
+use Rattle.fp_lists.specs.Continued.{IsContinued}
 use Rattle.area_redo.specs.Redo.{AreaBytes}
 use Rattle.area_redo.specs.Standing.{Way}
 use Rattle.ci_pool.specs.Cells.{pending_number}
@@ -9,10 +10,8 @@ use Rattle.dedb_area.proofs.areas.Areas.write_all.Given as goal
 
 abbrev pub invariant-writes : goal.invariant-writes
 invariant-writes g l = record {
-  told : g.T.Site.told l.initial.site → g.T.Site.told l.site;
+  continued : IsContinued g.T.Site.told g.T.Site.faults g.T.Site.holds g.T.Site.keeps l.initial.site l.site;
   faults : g.T.Site.faults l.site ≡ g.T.Site.faults l.initial.site;
-  holds : g.T.Site.holds l.site ≡ g.T.Site.holds l.initial.site;
-  keeps : (first : g.row.T.Denot) → g.T.Site.keeps first l.initial.site → g.T.Site.keeps first l.site;
   reads : ReadsNothing (g.T.Site.tells_reads l.initial.site) (g.T.Site.tells_reads l.site)
       (g.T.Site.bytes_read l.initial.site) (g.T.Site.bytes_read l.site);
   rest : StillWaits l.initial.self.pool l.self.pool;

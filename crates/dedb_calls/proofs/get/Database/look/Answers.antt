@@ -5,10 +5,10 @@ use Rattle.fp_model.specs.declared.calls.Resource.TheVariants.{Anchor}
 use Rattle.fp_model.specs.Workspace.{DedbPosition}
 use Rattle.dedb_calls.specs.Progress.{position_in}
 use Rattle.dedb_calls.specs.inside.Searches.{numbers_in}
-use Rattle.dedb_calls.proofs.SearchLemmas.{if_ok}
 use Rattle.dedb_calls.proofs.SeenLemmas.{in_order}
 use Rattle.dedb_calls.proofs.GetLemmas.{renamed}
 use Rattle.dedb_calls.proofs.get.Database.look.Goals as goal
+use Rattle.plain_laws.proofs.Results.{if_ok_then}
 
 pub search-requires-clause-shapes : goal.search-requires-clause-shapes
 search-requires-clause-shapes g c anchor a at =
@@ -19,7 +19,7 @@ returns g c =
     let def = c.args.self.def.now in
     let number = c.args.self.number in
     let p = c.position-position.ensures in
-    if_ok c.search.result c.search.ensures (λ l h.
+    if_ok_then c.search.result c.search.ensures (λ l h.
     renamed l (λ a. g.L.AnchorLocks.modes c.args.locks.now c.args.work.now (Anchor number a)) def.segments number
     c.args.work.now.anchors c.args.work.now.anchors c.lock_of.result (lock_of def number c.args.asked.hold)
     (option_copied c.quest_of-quest.result.behind)

@@ -1,7 +1,7 @@
 use Rattle.std.proofs.Common.{◌≡◌, ap, ◌∙◌, length, subst}
 use Rattle.std.specs.Prelude.{IfSome}
-use Rattle.dli_calls.proofs.FitLemmas.{key_whole}
 use Rattle.dli_calls.proofs.database.Database.found_or.Goals as goal
+use Rattle.model_laws.proofs.Layouts.{key_whole}
 
 pub returns-clause-change : goal.returns-clause-change
 returns-clause-change c =

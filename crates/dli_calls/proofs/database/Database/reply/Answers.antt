@@ -4,8 +4,8 @@ use Rattle.fp_model.specs.declared.calls.Call.{Call}
 use Rattle.fp_model.specs.MsdbCalls.{msdb_reply}
 use Rattle.dli_calls.specs.declared.reply.Reply.{Reply}
 use Rattle.dli_calls.specs.inside.Replies.{is_changed, replied_by, segments_in}
-use Rattle.dli_calls.proofs.BeginLemmas.{if_ok}
 use Rattle.dli_calls.proofs.database.Database.reply.Goals as goal
+use Rattle.plain_laws.proofs.Results.{if_ok_then}
 
 pub returns-in-Isrt-clause-reply : goal.returns-in-Isrt-clause-reply
 returns-in-Isrt-clause-reply c =
@@ -17,4 +17,4 @@ returns-in-Isrt-clause-reply c =
     c.requires.changed in
     subst (λ (call : Call). IfOk c.isrt.result (λ (reply : Reply). replied_by def number reply own ≡ msdb_reply def
     number segments segments own call)) (sym c.in-Isrt.is)
-    (if_ok c.isrt.result c.isrt.ensures.reply (λ reply is. is own changed))
+    (if_ok_then c.isrt.result c.isrt.ensures.reply (λ reply is. is own changed))

@@ -10,9 +10,10 @@ use Rattle.fp_model.specs.MsdbCalls.{puts_or_drops}
 use Rattle.fp_model.specs.Workspace.{MsdbPosition, Workspace, no_msdb_position}
 use Rattle.dli_calls.specs.Progress.{FitsPosition}
 use Rattle.segment_keys.specs.Keys.{is_among}
-use Rattle.dli_calls.proofs.BeginLemmas.{fresh_all, fresh_fit, fresh_positions}
+use Rattle.dli_calls.proofs.BeginLemmas.{fresh_fit}
 use Rattle.dli_calls.proofs.work.Work.new.Goals as goal
 use Rattle.dli_calls.proofs.work.Work.new.Goals.{After-new-4}
+use Rattle.model_laws.proofs.Positions.{fresh_all, fresh_positions}
 
 all : (c : After-new-4) → c.loop.positions.items ≡ replicate (length c.args.defs.now.msdbs) no_msdb_position
 all c = fresh_all c.loop.counter c.loop.positions.items c.args.defs.now.msdbs c.loop.invariant

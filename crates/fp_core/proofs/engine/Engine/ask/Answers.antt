@@ -1,7 +1,8 @@
 use Rattle.std.proofs.Common.{arith, refl, length}
 use Rattle.ci_locks.specs.declared.locks.Grant.TheVariants as grant
-use Rattle.fp_core.proofs.Grants.{has_asked, on_err, unlocked}
+use Rattle.fp_core.proofs.Grants.{has_asked, unlocked}
 use Rattle.fp_core.proofs.engine.Engine.ask.Goals as goal
+use Rattle.plain_laws.proofs.Results.{on_err}
 
 pub ask-requires-clause-within : goal.ask-requires-clause-within
 ask-requires-clause-within c =

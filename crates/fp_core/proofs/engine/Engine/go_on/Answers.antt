@@ -6,8 +6,8 @@ use Rattle.fp_core.specs.inside.Answering.{IsActed}
 use Rattle.fp_core.specs.Relation.{IsTransaction}
 use Rattle.fp_core.proofs.Ends.{may_end, not_idle, region_is}
 use Rattle.fp_core.proofs.Goings.{has_acted, with_active, works_still}
-use Rattle.fp_core.proofs.Places.{if_ok_by, on_err_by}
 use Rattle.fp_core.proofs.engine.Engine.go_on.Goals as goal
+use Rattle.plain_laws.proofs.Results.{if_ok_by, on_err_by}
 
 pub go_on-requires-clause-under : goal.go_on-requires-clause-under
 go_on-requires-clause-under g c =

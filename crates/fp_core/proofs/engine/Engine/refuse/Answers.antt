@@ -5,9 +5,9 @@ use Rattle.fp_core.specs.declared.engine.Engine.{Engine}
 use Rattle.fp_core.specs.inside.Acting.{MayEnd}
 use Rattle.fp_core.specs.Relation.{StandsFor}
 use Rattle.fp_core.proofs.Ends.{ended_at, uses_last}
-use Rattle.fp_core.proofs.Goings.{on_err}
 use Rattle.fp_core.proofs.Refusals.{refusal_format, refusal_makes, refusal_uses, unsettled}
 use Rattle.fp_core.proofs.engine.Engine.refuse.Goals as goal
+use Rattle.plain_laws.proofs.Results.{on_err}
 
 pub returns-in_err-end-clause-err : goal.returns-in_err-end-clause-err
 returns-in_err-end-clause-err c m t u =

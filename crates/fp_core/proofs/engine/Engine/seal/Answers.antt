@@ -34,7 +34,7 @@ pub returns-in_err-tell-clause-leaves : goal.returns-in_err-tell-clause-leaves
 returns-in_err-tell-clause-leaves g c origin m told at =
     let engine = c.args.self.now in
     let some : 1 ≤ length engine.owed.items = grind (arith, common_steps) in
-    let told1 = c.seal.ensures.told told in
+    let told1 = c.seal.ensures.site.still_told told in
     tells origin engine m (g.T.Site.disk c.args.site.now) at (g.met.T.Site.lawful c.args.site.now told) some
     (g.T.Site.disk c.seal.new.site) (c.seal.ensures.only told)
     (c.seal.ensures.crash origin.front (origin.groups ++ m.groups) told at.at_rest)
@@ -59,7 +59,7 @@ returns-clause-at g c origin m told at =
     let engine = c.args.self.now in
     let some : 1 ≤ length engine.owed.items = grind (arith, common_steps) in
     let w = c.in_ok-count.ensures in
-    let told1 = c.seal.ensures.told told in
+    let told1 = c.seal.ensures.site.still_told told in
     let turned = log_turned engine m at.parts c.in_ok-count.count w.count c.seal.new.self c.tell.new.queues
     c.tell.new.owed w.sealed w.unsealed c.seal.ensures.spare c.tell.ensures.queues c.in_ok-tell.ensures.freed
     c.in_ok-tell.ensures.rest c.tell.ensures.capacity some in
@@ -95,7 +95,7 @@ pub returns-clause-leaves : goal.returns-clause-leaves
 returns-clause-leaves g c origin m told at =
     let engine = c.args.self.now in
     let some : 1 ≤ length engine.owed.items = grind (arith, common_steps) in
-    let told1 = c.seal.ensures.told told in
+    let told1 = c.seal.ensures.site.still_told told in
     tells origin engine m (g.T.Site.disk c.args.site.now) at (g.met.T.Site.lawful c.args.site.now told) some
     (g.T.Site.disk c.seal.new.site) (c.seal.ensures.only told)
     (c.seal.ensures.crash origin.front (origin.groups ++ m.groups) told at.at_rest)
@@ -119,7 +119,7 @@ returns-in_err-count-clause-spares g c told =
 
 pub returns-in_err-tell-clause-spares : goal.returns-in_err-tell-clause-spares
 returns-in_err-tell-clause-spares g c told =
-    let told1 = c.seal.ensures.told told in
+    let told1 = c.seal.ensures.site.still_told told in
     spares_sealed (g.T.Site.disk c.args.site.now) (g.T.Site.disk c.seal.new.site) (g.T.Site.disk c.tell.new.site)
     (replies_of (take c.in_ok-count.count c.args.self.now.owed.items))
     (g.met.T.Site.lawful c.args.site.now told) (g.met.T.Site.lawful c.seal.new.site told1) (c.seal.ensures.only told)
@@ -127,7 +127,7 @@ returns-in_err-tell-clause-spares g c told =
 
 pub returns-clause-spares : goal.returns-clause-spares
 returns-clause-spares g c told =
-    let told1 = c.seal.ensures.told told in
+    let told1 = c.seal.ensures.site.still_told told in
     spares_sealed (g.T.Site.disk c.args.site.now) (g.T.Site.disk c.seal.new.site) (g.T.Site.disk c.tell.new.site)
     (replies_of (take c.in_ok-count.count c.args.self.now.owed.items))
     (g.met.T.Site.lawful c.args.site.now told) (g.met.T.Site.lawful c.seal.new.site told1) (c.seal.ensures.only told)
@@ -150,7 +150,7 @@ returns-in_err-count-clause-front g c told =
 
 pub returns-in_err-tell-clause-front : goal.returns-in_err-tell-clause-front
 returns-in_err-tell-clause-front g c told =
-    let told1 = c.seal.ensures.told told in
+    let told1 = c.seal.ensures.site.still_told told in
     let old = g.T.Site.disk c.args.site.now in
     let mid = g.T.Site.disk c.seal.new.site in
     let new = g.T.Site.disk c.tell.new.site in
@@ -159,14 +159,15 @@ returns-in_err-tell-clause-front g c told =
     let law1 = g.met.T.Site.lawful c.seal.new.site told1 in
     let law2 = g.met.T.Site.lawful c.tell.new.site (c.tell.ensures.site.still_told told1) in
     fronts_on old mid new gate next (fronts_sealing old mid gate next (c.seal.ensures.front told))
-    (holds_sealed old mid gate next (c.seal.ensures.front told) law1 (take c.args.self.now.defs.now.log_group c.args.self.now.log.unsealed)
+    (holds_sealed old mid gate next (c.seal.ensures.front told) law1
+    (take c.args.self.now.defs.now.log_group c.args.self.now.log.unsealed)
     (λ f groups is. c.in_ok-count.ensures.kept f groups told is))
     (fronts_sent mid new (replies_of (take c.in_ok-count.count c.args.self.now.owed.items)) next law1 law2
     (c.tell.ensures.same told1) (c.tell.ensures.crash told1))
 
 pub returns-clause-front : goal.returns-clause-front
 returns-clause-front g c told =
-    let told1 = c.seal.ensures.told told in
+    let told1 = c.seal.ensures.site.still_told told in
     let old = g.T.Site.disk c.args.site.now in
     let mid = g.T.Site.disk c.seal.new.site in
     let new = g.T.Site.disk c.tell.new.site in
@@ -175,14 +176,15 @@ returns-clause-front g c told =
     let law1 = g.met.T.Site.lawful c.seal.new.site told1 in
     let law2 = g.met.T.Site.lawful c.tell.new.site (c.tell.ensures.site.still_told told1) in
     fronts_on old mid new gate next (fronts_sealing old mid gate next (c.seal.ensures.front told))
-    (holds_sealed old mid gate next (c.seal.ensures.front told) law1 (take c.args.self.now.defs.now.log_group c.args.self.now.log.unsealed)
+    (holds_sealed old mid gate next (c.seal.ensures.front told) law1
+    (take c.args.self.now.defs.now.log_group c.args.self.now.log.unsealed)
     (λ f groups is. c.in_ok-count.ensures.kept f groups told is))
     (fronts_sent mid new (replies_of (take c.in_ok-count.count c.args.self.now.owed.items)) next law1 law2
     (c.tell.ensures.same told1) (c.tell.ensures.crash told1))
 
 pub returns-clause-front_on : goal.returns-clause-front_on
 returns-clause-front_on g c told =
-    let told1 = c.seal.ensures.told told in
+    let told1 = c.seal.ensures.site.still_told told in
     let old = g.T.Site.disk c.args.site.now in
     let mid = g.T.Site.disk c.seal.new.site in
     let new = g.T.Site.disk c.tell.new.site in
@@ -191,7 +193,8 @@ returns-clause-front_on g c told =
     let law1 = g.met.T.Site.lawful c.seal.new.site told1 in
     let law2 = g.met.T.Site.lawful c.tell.new.site (c.tell.ensures.site.still_told told1) in
     holds_on old mid new gate next next
-    (holds_sealed old mid gate next (c.seal.ensures.front told) law1 (take c.args.self.now.defs.now.log_group c.args.self.now.log.unsealed)
+    (holds_sealed old mid gate next (c.seal.ensures.front told) law1
+    (take c.args.self.now.defs.now.log_group c.args.self.now.log.unsealed)
     (λ f groups is. c.in_ok-count.ensures.kept f groups told is))
     (holds_sent mid new (replies_of (take c.in_ok-count.count c.args.self.now.owed.items)) next law1 law2
     (c.tell.ensures.same told1) (c.tell.ensures.crash told1))

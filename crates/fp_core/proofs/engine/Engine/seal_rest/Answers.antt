@@ -1,4 +1,5 @@
 use Rattle.std.proofs.Common.{◌≡◌, refl, ◌∙◌, arith, ◌-◌, ◌≤◌, length}
+use Rattle.fp_lists.proofs.ContinuedLemmas.{continued_both, continued_none}
 use Rattle.std.proofs.lemmas.Grind.{common_steps}
 use Rattle.fp_model.specs.History.{place_of}
 use Rattle.fp_model.specs.Machine.{sealed_times}
@@ -29,7 +30,7 @@ loop-self-init g c =
       spares = λ told. spares_none IsLogSet disk (g.met.T.Site.lawful c.args.site.now told);
       front = λ told. fronts_none disk engine.log.gate (g.met.T.Site.lawful c.args.site.now told);
       front_on = λ told. holds_none disk engine.log.gate engine.log.gate refl;
-      site = record { later = omega arith; still_told = λ told. told; reference = refl; kept = λ x h. h };
+      site = continued_none g.T.Site.told g.T.Site.faults g.T.Site.holds g.T.Site.keeps c.args.site.now;
     }
 
 pub loop-self-preserved : goal.loop-self-preserved
@@ -77,12 +78,7 @@ loop-self-preserved g c =
       front_on = λ told.
           holds_on d0 d1 d2 first.log.gate old.log.gate new.log.gate (before.front_on told)
           (c.in_ok-seal.ensures.front_on (before.site.still_told told));
-      site = record {
-        later = omega (arith, before.site.later, one.site.later);
-        still_told = λ told. one.site.still_told (before.site.still_told told);
-        reference = one.site.reference ∙ before.site.reference;
-        kept = λ x h. one.site.kept x (before.site.kept x h);
-      };
+      site = continued_both g.T.Site.told g.T.Site.faults g.T.Site.holds g.T.Site.keeps _ _ _ before.site one.site;
     }
 
 pub loop-self-smaller : goal.loop-self-smaller

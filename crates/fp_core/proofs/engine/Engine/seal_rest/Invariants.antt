@@ -5,7 +5,8 @@ use Rattle.fp_site.specs.Site.{ReadsNothing}
 use Rattle.fp_core.specs.Fronts.{HoldsFronts, KeepsFronts}
 use Rattle.fp_core.specs.Relation.{StandsFor, rules_in}
 use Rattle.fp_core.specs.Sparing.{IsLogSet, Spares}
-use Rattle.fp_core.specs.Standing.{IsContinued, Leaves, Origin, StandsAt}
+use Rattle.fp_core.specs.Standing.{Leaves, Origin, StandsAt}
+use Rattle.fp_lists.specs.Continued.{IsContinued}
 use Rattle.fp_core.proofs.Checkpoints.{IsSealed, IsSealedAt}
 use Rattle.fp_core.proofs.engine.Engine.seal_rest.Given as goal
 

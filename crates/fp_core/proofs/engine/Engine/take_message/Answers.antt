@@ -1,9 +1,9 @@
 use Rattle.std.proofs.Common.{◌≡◌, ◌∙◌, sym, arith, ℕ, suc, ◌-◌, None}
-use Rattle.fp_core.proofs.Goings.{on_err}
-use Rattle.fp_core.proofs.Places.{some_same}
 use Rattle.fp_core.proofs.Steps.{regions_long}
 use Rattle.fp_core.proofs.Takes.{first_takeable, group_some, group_within, nothing, roomier, takes}
 use Rattle.fp_core.proofs.engine.Engine.take_message.Goals as goal
+use Rattle.plain_laws.proofs.Results.{on_err}
+use Rattle.std.proofs.lemmas.Option.{same_Some}
 
 pub group_of-group-requires-clause-within : goal.group_of-group-requires-clause-within
 group_of-group-requires-clause-within c =
@@ -57,7 +57,7 @@ returns-clause-turned c m s =
     let place : ℕ = c.from-place.result - 1 in
     let e : suc place ≡ c.args.region = omega (arith, c.from-place.ensures, c.requires.some) in
     let same : c.in-Some-take.message ≡ c.in-Some.message.now =
-    some_same _ _ (c.in-Some-take.ensures.oldest ∙ sym c.in-Some.ensures) in
+    same_Some _ _ (c.in-Some-take.ensures.oldest ∙ sym c.in-Some.ensures) in
     takes c.args.self.now m place c.group_of-group.result c.args.region e s
     (rw c.from-place.ensures c.group_of-group.ensures) (rw c.from-place.ensures c.requires.idle)
     c.in-Some.message.now

@@ -7,7 +7,9 @@ use Rattle.fp_core.specs.Sparing.{IsLogSet}
 use Rattle.fp_core.specs.inside.Rounding.{Went}
 use Rattle.fp_core.proofs.Bounds.{needs_fewer, with_lines_reached}
 use Rattle.fp_core.proofs.Comings.{came_on, drained_by, moments_none, moments_on, none_come, stopped_on}
-use Rattle.fp_core.proofs.Onwards.{continued_both, continued_none, reads_nothing_both, reads_nothing_none, reads_only_both, reads_only_none}
+use Rattle.fp_lists.proofs.ContinuedLemmas.{continued_both, continued_none}
+use Rattle.fp_source.proofs.Calls.{reads_joined, reads_none}
+use Rattle.fp_core.proofs.Onwards.{reads_nothing_both, reads_nothing_none}
 use Rattle.fp_core.proofs.FrontLemmas.{fronts_none, fronts_on, holds_none, holds_on}
 use Rattle.fp_core.proofs.SparingLemmas.{spares_none, spares_on}
 use Rattle.fp_core.proofs.Rounds.{if_err_from}
@@ -41,7 +43,7 @@ loop-done-init g c =
       site_calm = refl;
       source_calm = refl;
       site = continued_none g.T.Site.told g.T.Site.faults g.T.Site.holds g.T.Site.keeps c.args.site.now;
-      source = reads_only_none g.S.Source.told g.S.Source.left g.S.Source.faults g.S.Source.holds g.S.Source.keeps
+      source = reads_none g.S.Source.told g.S.Source.left g.S.Source.faults g.S.Source.holds g.S.Source.keeps
           part.Messages c.args.source.now;
     }
 
@@ -58,7 +60,7 @@ returns-in_err-round-clause-stopped g c origin m told tells beside reached =
     (g.T.Site.disk c.args.site.now) (g.T.Site.disk c.round.new.site)) c.from_residual.result stop
     c.from_residual.ensures.1
     (stopped_on come i.rules (ap (λ d. d.now) i.defs) (g.T.Site.disk c.round.new.site) stop
-    (c.in_err-round.ensures.stopped origin come.after told1 (i.source.stays_told tells) come.beside))
+    (c.in_err-round.ensures.stopped origin come.after told1 (i.source.continued.still_told tells) come.beside))
 
 pub returns-in_err-round-clause-moments : goal.returns-in_err-round-clause-moments
 returns-in_err-round-clause-moments g c origin m told tells beside reached =
@@ -67,7 +69,7 @@ returns-in_err-round-clause-moments g c origin m told tells beside reached =
     let come = i.come origin m told tells beside in
     moments_on come i.rules (ap (λ d. d.now) i.defs) (g.T.Site.disk c.round.new.site)
     (g.met.T.Site.lawful c.loop-done.site told1) (i.moments origin m told tells beside)
-    (c.round.ensures.moments origin come.after told1 (i.source.stays_told tells) come.beside)
+    (c.round.ensures.moments origin come.after told1 (i.source.continued.still_told tells) come.beside)
 
 -- ---- the end
 
@@ -92,7 +94,7 @@ returns-then-not-branch-clause-moments g c origin m told tells beside reached =
     let come = i.come origin m told tells beside in
     moments_on come i.rules (ap (λ d. d.now) i.defs) (g.T.Site.disk c.round.new.site)
     (g.met.T.Site.lawful c.loop-done.site told1) (i.moments origin m told tells beside)
-    (c.round.ensures.moments origin come.after told1 (i.source.stays_told tells) come.beside)
+    (c.round.ensures.moments origin come.after told1 (i.source.continued.still_told tells) come.beside)
 
 pub returns-then-not-branch-clause-drained : goal.returns-then-not-branch-clause-drained
 returns-then-not-branch-clause-drained g c origin m told tells beside reached =
@@ -105,7 +107,7 @@ returns-then-not-branch-clause-drained g c origin m told tells beside reached =
     let told1 = i.site.still_told told in
     let come = i.come origin m told tells beside in
     let came = came_on come i.rules (ap (λ d. d.now) i.defs) disk2
-    (c.in_ok-round.ensures.beside origin come.after told1 (i.source.stays_told tells) come.beside) in
+    (c.in_ok-round.ensures.beside origin come.after told1 (i.source.continued.still_told tells) come.beside) in
     drained_by origin core.engine.defs.now (rules_in core.engine) m disk disk2 core.lines new.lines left2 new.engine
     (ap (λ d. d.now) (c.round.ensures.defs ∙ i.defs)) (c.round.ensures.rules ∙ i.rules) came.come
     (came.drained c.if-not-branch.true)
@@ -130,14 +132,14 @@ loop-done-preserved g c =
       come = λ origin m told tells beside.
           let come = i.come origin m told tells beside in
           (came_on come i.rules (ap (λ d. d.now) i.defs) (g.T.Site.disk c.round.new.site)
-          (c.in_ok-round.ensures.beside origin come.after (i.site.still_told told) (i.source.stays_told tells)
+          (c.in_ok-round.ensures.beside origin come.after (i.site.still_told told) (i.source.continued.still_told tells)
           come.beside)).come;
       moments = λ origin m told tells beside.
           let told1 = i.site.still_told told in
           let come = i.come origin m told tells beside in
           moments_on come i.rules (ap (λ d. d.now) i.defs) (g.T.Site.disk c.round.new.site)
           (g.met.T.Site.lawful c.loop-done.site told1) (i.moments origin m told tells beside)
-          (c.round.ensures.moments origin come.after told1 (i.source.stays_told tells) come.beside);
+          (c.round.ensures.moments origin come.after told1 (i.source.continued.still_told tells) come.beside);
       spares = λ told.
           let told1 = i.site.still_told told in
           spares_on IsLogSet (g.T.Site.disk c.args.site.now) (g.T.Site.disk c.loop-done.site)
@@ -151,7 +153,7 @@ loop-done-preserved g c =
           holds_on (g.T.Site.disk c.args.site.now) (g.T.Site.disk c.loop-done.site) (g.T.Site.disk c.round.new.site)
           core.engine.log.gate mid.engine.log.gate new.engine.log.gate (i.front_on told)
           (c.in_ok-round.ensures.front_on (i.site.still_told told));
-      fair = λ tells. c.in_ok-round.ensures.fair (i.source.stays_told tells) ∙ i.fair tells;
+      fair = λ tells. c.in_ok-round.ensures.fair (i.source.continued.still_told tells) ∙ i.fair tells;
       rules = c.round.ensures.rules ∙ i.rules;
       defs = c.round.ensures.defs ∙ i.defs;
       scripts = c.round.ensures.scripts ∙ i.scripts;
@@ -165,7 +167,7 @@ loop-done-preserved g c =
       site = continued_both g.T.Site.told g.T.Site.faults g.T.Site.holds g.T.Site.keeps c.args.site.now
           c.loop-done.site c.round.new.site
           i.site c.round.ensures.site;
-      source = reads_only_both g.S.Source.told g.S.Source.left g.S.Source.faults g.S.Source.holds g.S.Source.keeps
+      source = reads_joined g.S.Source.told g.S.Source.left g.S.Source.faults g.S.Source.holds g.S.Source.keeps
           part.Messages
           c.args.source.now c.loop-done.source c.round.new.source i.source c.round.ensures.source;
     }

@@ -10,7 +10,8 @@ use Rattle.fp_core.specs.Fronts.{HoldsFronts, KeepsFronts}
 use Rattle.fp_core.specs.Relation.{rules_in}
 use Rattle.fp_core.specs.inside.Rounding.{HasCome, NeedsFewer}
 use Rattle.fp_core.specs.Sparing.{IsLogSet, Spares}
-use Rattle.fp_core.specs.Standing.{IsContinued, Origin, StandsBeside}
+use Rattle.fp_core.specs.Standing.{Origin, StandsBeside}
+use Rattle.fp_lists.specs.Continued.{IsContinued}
 use Rattle.fp_core.proofs.stepping.Core.drain.Given as goal
 
 -- fewer rounds are needed than may come, and those so far came to where engine, site and source stand

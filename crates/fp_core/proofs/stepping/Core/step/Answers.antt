@@ -10,13 +10,13 @@ use Rattle.fp_core.specs.Sparing.{IsLogSet}
 use Rattle.fp_core.specs.Standing.{IsEventOf, IsUnbegun, Stepped, SteppedBeside, seals_of}
 use Rattle.fp_core.specs.inside.Standing.{SteppedAt, SteppedBy}
 use Rattle.fp_core.specs.Turning.{Turned}
-use Rattle.fp_core.proofs.Places.{if_ok_by}
 use Rattle.fp_core.proofs.Rounds.{on_err_sure}
 use Rattle.fp_core.proofs.Takes.{idle_at}
 use Rattle.fp_core.proofs.FrontLemmas.{fronts_none, holds_none, on_ok_holds}
 use Rattle.fp_core.proofs.SparingLemmas.{spares_none}
 use Rattle.fp_core.proofs.Steps.{ckpt_beside, ckpt_stepped, in_beside, left_alone, log_beside, log_stepped, out_beside, out_turned, region_beside, region_stepped, regions_long, stepped_with}
 use Rattle.fp_core.proofs.stepping.Core.step.Goals as goal
+use Rattle.plain_laws.proofs.Results.{if_ok_by}
 
 same_region : (a b : ℕ) → event.Region a ≡ event.Region b → a ≡ b
 same_region a b e = cc

@@ -1,5 +1,6 @@
 -- What a site tells follows where it tells nothing.
 use Rattle.std.proofs.Common.{refl}
+use Rattle.fp_lists.proofs.ContinuedLemmas.{continued_counts}
 use Rattle.fp_files.proofs.file_site.FileSiteSite.TheImpl.Goals as goal
 
 pub size-tells : goal.size-tells
@@ -9,9 +10,7 @@ size-tells g c = record {
   cause = c.ensures.cause;
   stays = λ never. absurd never;
   reads = λ k never. absurd never;
-  told = λ never. never;
-  holds = refl;
-  keeps = λ first known. known;
+  site = continued_counts _ _ _ _ _ _ _ c.ensures.cause (λ never. never) refl (λ first known. known);
 }
 
 pub reach-tells : goal.reach-tells
@@ -19,9 +18,7 @@ reach-tells g c = record {
   cause = c.ensures.cause;
   stays = λ never. absurd never;
   reads = λ k never. absurd never;
-  told = λ never. never;
-  holds = refl;
-  keeps = λ first known. known;
+  site = continued_counts _ _ _ _ _ _ _ c.ensures.cause (λ never. never) refl (λ first known. known);
 }
 
 pub read_at-tells : goal.read_at-tells
@@ -33,9 +30,7 @@ read_at-tells g c = record {
   reads = λ k never. never;
   others = λ k ne never. absurd never;
   stays = λ never. absurd never;
-  told = λ never. never;
-  holds = refl;
-  keeps = λ first known. known;
+  site = continued_counts _ _ _ _ _ _ _ c.ensures.cause (λ never. never) refl (λ first known. known);
 }
 
 pub write_at-tells : goal.write_at-tells
@@ -45,9 +40,7 @@ write_at-tells g c = record {
   cause = c.ensures.cause;
   leaves = λ never. absurd never;
   reads = λ k never. absurd never;
-  told = λ never. never;
-  holds = refl;
-  keeps = λ first known. known;
+  site = continued_counts _ _ _ _ _ _ _ c.ensures.cause (λ never. never) refl (λ first known. known);
   crash = λ never. absurd never;
 }
 
@@ -58,9 +51,7 @@ sync-tells g c = record {
   cause = c.ensures.cause;
   leaves = λ never. absurd never;
   reads = λ k never. absurd never;
-  told = λ never. never;
-  holds = refl;
-  keeps = λ first known. known;
+  site = continued_counts _ _ _ _ _ _ _ c.ensures.cause (λ never. never) refl (λ first known. known);
   crash = λ never. absurd never;
 }
 
@@ -71,8 +62,6 @@ send-tells g c = record {
   cause = c.ensures.cause;
   same = λ never. absurd never;
   reads = λ k never. absurd never;
-  told = λ never. never;
-  holds = refl;
-  keeps = λ first known. known;
+  site = continued_counts _ _ _ _ _ _ _ c.ensures.cause (λ never. never) refl (λ first known. known);
   crash = λ never. absurd never;
 }

@@ -1,5 +1,6 @@
 -- What a source tells follows where it tells nothing.
 use Rattle.std.proofs.Common.{refl}
+use Rattle.fp_lists.proofs.ContinuedLemmas.{continued_counts}
 use Rattle.fp_files.proofs.file_source.FileSourceSource.TheImpl.Goals as goal
 
 pub read-tells : goal.read-tells
@@ -10,7 +11,5 @@ read-tells g c = record {
   failed = λ never. absurd never;
   cause = c.ensures.cause;
   others = λ never. absurd never;
-  told = λ never. never;
-  holds = refl;
-  keeps = λ first known. known;
+  source = continued_counts _ _ _ _ _ _ _ c.ensures.cause (λ never. never) refl (λ first known. known);
 }

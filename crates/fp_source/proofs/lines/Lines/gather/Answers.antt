@@ -1,31 +1,32 @@
 use Rattle.std.proofs.Common.{◌≡◌, ◌+◌, ◌++◌, ℕ, List, [], Err, sym, ◌∙◌, ap, append_assoc}
-use Rattle.std.proofs.lemmas.Result.{err_from_is_err_and}
+use Rattle.std.proofs.lemmas.Result.{IfOk-from_err, err_from_is_err_and}
+use Rattle.fp_lists.proofs.FaultLemmas.{rose_behind}
 use Rattle.fp_source.specs.declared.lines.LineFault.{LineFault}
 use Rattle.fp_source.specs.declared.lines.LineFault.TheVariants.{TooLong, TooMany}
 use Rattle.fp_source.specs.declared.part.Part.TheVariants.{Messages}
 use Rattle.fp_source.specs.Lines.{buffered, to_come}
-use Rattle.fp_source.proofs.Errs.{nothing_if, nothing_on, no_long_line, no_line_too_many, caused, not_by_read}
-use Rattle.fp_source.proofs.Pieces.{plain_append, long_extended, rose_since}
+use Rattle.fp_source.proofs.Errs.{no_long_line, no_line_too_many, caused, not_by_read}
+use Rattle.fp_source.proofs.Pieces.{plain_append, long_extended}
 use Rattle.fp_source.proofs.Calls.{reads_joined}
 use Rattle.fp_source.proofs.lines.Lines.gather.Goals as goal
 
 pub returns-in_err-fill-clause-by_newline : goal.returns-in_err-fill-clause-by_newline
-returns-in_err-fill-clause-by_newline g c = λ t. nothing_if c.from_residual.result _ c.from_residual.ensures.0
+returns-in_err-fill-clause-by_newline g c = λ t. IfOk-from_err c.from_residual.result _ c.from_residual.ensures.0
 
 pub returns-in_err-fill-clause-at_end : goal.returns-in_err-fill-clause-at_end
-returns-in_err-fill-clause-at_end g c = λ t. nothing_if c.from_residual.result _ c.from_residual.ensures.0
+returns-in_err-fill-clause-at_end g c = λ t. IfOk-from_err c.from_residual.result _ c.from_residual.ensures.0
 
 pub returns-in_err-fill-clause-ended : goal.returns-in_err-fill-clause-ended
-returns-in_err-fill-clause-ended g c = λ t. nothing_if c.from_residual.result _ c.from_residual.ensures.0
+returns-in_err-fill-clause-ended g c = λ t. IfOk-from_err c.from_residual.result _ c.from_residual.ensures.0
 
 pub returns-in_err-fill-clause-plain : goal.returns-in_err-fill-clause-plain
-returns-in_err-fill-clause-plain g c = nothing_on c.from_residual.result _ c.from_residual.ensures.0
+returns-in_err-fill-clause-plain g c = IfOk-from_err c.from_residual.result _ c.from_residual.ensures.0
 
 pub returns-in_err-fill-clause-short : goal.returns-in_err-fill-clause-short
-returns-in_err-fill-clause-short g c = nothing_on c.from_residual.result _ c.from_residual.ensures.0
+returns-in_err-fill-clause-short g c = IfOk-from_err c.from_residual.result _ c.from_residual.ensures.0
 
 pub returns-in_err-fill-clause-calm : goal.returns-in_err-fill-clause-calm
-returns-in_err-fill-clause-calm g c = nothing_on c.from_residual.result _ c.from_residual.ensures.0
+returns-in_err-fill-clause-calm g c = IfOk-from_err c.from_residual.result _ c.from_residual.ensures.0
 
 pub returns-in_err-fill-clause-too_long : goal.returns-in_err-fill-clause-too_long
 returns-in_err-fill-clause-too_long g c = λ t n e. absurd (no_long_line c.from_residual.result n c.from_residual.ensures.1 e)
@@ -45,22 +46,22 @@ returns-in_err-fill-clause-source g c = reads_joined g.S.Source.told g.S.Source.
     c.in_err-fill.ensures.source
 
 pub returns-in_err-take_part-clause-by_newline : goal.returns-in_err-take_part-clause-by_newline
-returns-in_err-take_part-clause-by_newline g c = λ t. nothing_if c.from_residual-in_err-take_part.result _ c.from_residual-in_err-take_part.ensures.0
+returns-in_err-take_part-clause-by_newline g c = λ t. IfOk-from_err c.from_residual-in_err-take_part.result _ c.from_residual-in_err-take_part.ensures.0
 
 pub returns-in_err-take_part-clause-at_end : goal.returns-in_err-take_part-clause-at_end
-returns-in_err-take_part-clause-at_end g c = λ t. nothing_if c.from_residual-in_err-take_part.result _ c.from_residual-in_err-take_part.ensures.0
+returns-in_err-take_part-clause-at_end g c = λ t. IfOk-from_err c.from_residual-in_err-take_part.result _ c.from_residual-in_err-take_part.ensures.0
 
 pub returns-in_err-take_part-clause-ended : goal.returns-in_err-take_part-clause-ended
-returns-in_err-take_part-clause-ended g c = λ t. nothing_if c.from_residual-in_err-take_part.result _ c.from_residual-in_err-take_part.ensures.0
+returns-in_err-take_part-clause-ended g c = λ t. IfOk-from_err c.from_residual-in_err-take_part.result _ c.from_residual-in_err-take_part.ensures.0
 
 pub returns-in_err-take_part-clause-plain : goal.returns-in_err-take_part-clause-plain
-returns-in_err-take_part-clause-plain g c = nothing_on c.from_residual-in_err-take_part.result _ c.from_residual-in_err-take_part.ensures.0
+returns-in_err-take_part-clause-plain g c = IfOk-from_err c.from_residual-in_err-take_part.result _ c.from_residual-in_err-take_part.ensures.0
 
 pub returns-in_err-take_part-clause-short : goal.returns-in_err-take_part-clause-short
-returns-in_err-take_part-clause-short g c = nothing_on c.from_residual-in_err-take_part.result _ c.from_residual-in_err-take_part.ensures.0
+returns-in_err-take_part-clause-short g c = IfOk-from_err c.from_residual-in_err-take_part.result _ c.from_residual-in_err-take_part.ensures.0
 
 pub returns-in_err-take_part-clause-calm : goal.returns-in_err-take_part-clause-calm
-returns-in_err-take_part-clause-calm g c = nothing_on c.from_residual-in_err-take_part.result _ c.from_residual-in_err-take_part.ensures.0
+returns-in_err-take_part-clause-calm g c = IfOk-from_err c.from_residual-in_err-take_part.result _ c.from_residual-in_err-take_part.ensures.0
 
 pub returns-in_err-take_part-clause-too_long : goal.returns-in_err-take_part-clause-too_long
 returns-in_err-take_part-clause-too_long g c = λ t n e.
@@ -71,7 +72,7 @@ returns-in_err-take_part-clause-too_long g c = λ t n e.
     let left : List ℕ = g.S.Source.left c.fill.new.source Messages in
     let more = long_extended (c.loop-self.line.items ++ buffered c.fill.new.self) left long in
     let now : to_come c.fill.new.self left ≡ to_come c.loop-self.self (g.S.Source.left c.loop-self.source Messages) =
-    c.in_ok-fill.ensures.same (c.loop-self.invariant.source.stays_told t) in
+    c.in_ok-fill.ensures.same (c.loop-self.invariant.source.continued.still_told t) in
     let whole : to_come c.args.self.now (g.S.Source.left c.args.source.now Messages) ≡ c.loop-self.line.items ++ to_come
     c.loop-self.self (g.S.Source.left c.loop-self.source Messages) = c.loop-self.invariant.same t in
     rw (whole, ← now, ← append_assoc c.loop-self.line.items (buffered c.fill.new.self) left) more
@@ -89,7 +90,7 @@ loop-self-preserved g c =
           let whole : to_come c.args.self.now (g.S.Source.left c.args.source.now Messages) ≡ line ++ to_come
           c.loop-self.self (g.S.Source.left c.loop-self.source Messages) = it.same t in
           let now : to_come c.fill.new.self left ≡ to_come c.loop-self.self
-          (g.S.Source.left c.loop-self.source Messages) = c.in_ok-fill.ensures.same (it.source.stays_told t) in
+          (g.S.Source.left c.loop-self.source Messages) = c.in_ok-fill.ensures.same (it.source.continued.still_told t) in
           let all : buffered c.fill.new.self ≡ part.0 = part.1.all c.if-branch-2.false in
           let nothing : buffered c.take_part.new.self ≡ [] = part.1.nothing c.if-branch-2.false in
           let more : c.take_part.new.line.items ≡ line ++ part.0 = part.2 in
@@ -103,7 +104,7 @@ loop-self-preserved g c =
 
 pub returns-in_err-fill-clause-cause : goal.returns-in_err-fill-clause-cause
 returns-in_err-fill-clause-cause g c = caused c.from_residual.result _ _ c.from_residual.ensures.1
-    (rose_since _ _ _ c.loop-self.invariant.source.later c.in_err-fill.ensures.cause.rose)
+    (rose_behind _ _ _ c.loop-self.invariant.source.continued.later c.in_err-fill.ensures.cause.rose)
 
 pub returns-in_err-take_part-clause-number : goal.returns-in_err-take_part-clause-number
 returns-in_err-take_part-clause-number g c = λ n e.

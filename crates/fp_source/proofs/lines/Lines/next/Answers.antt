@@ -1,41 +1,41 @@
 use Rattle.std.proofs.Common.{◌≡◌, ◌<◌, ◌+◌, ℕ, List, Err, length, sym, ◌∙◌, ap, arith, length-append}
-use Rattle.std.proofs.lemmas.Result.{err_from_is_err_and}
+use Rattle.std.proofs.lemmas.Result.{IfOk-from_err, err_from_is_err_and}
 use Rattle.fp_source.specs.declared.part.Part.TheVariants.{Messages}
 use Rattle.fp_source.specs.declared.lines.LineFault.{LineFault}
 use Rattle.fp_source.specs.declared.lines.LineFault.TheVariants.{TooLong, TooMany}
 use Rattle.fp_source.specs.Lines.{buffered, to_come}
-use Rattle.fp_source.proofs.Errs.{nothing_if, nothing_on, no_long_line, no_line_too_many, caused, caused_later}
+use Rattle.fp_source.proofs.Errs.{no_long_line, no_line_too_many, caused, caused_later}
 use Rattle.fp_source.proofs.Calls.{reads_joined}
 use Rattle.fp_source.proofs.LineLemmas.{Begins, line_given, fault_stays, many_ahead, long_ahead}
 use Rattle.fp_source.proofs.lines.Lines.next.Given.{Over}
 use Rattle.fp_source.proofs.lines.Lines.next.Goals as goal
 
 pub returns-in_err-fill-clause-line : goal.returns-in_err-fill-clause-line
-returns-in_err-fill-clause-line g c = λ t. nothing_if c.from_residual.result _ c.from_residual.ensures.0
+returns-in_err-fill-clause-line g c = λ t. IfOk-from_err c.from_residual.result _ c.from_residual.ensures.0
 
 pub returns-in_err-fill-clause-fair : goal.returns-in_err-fill-clause-fair
-returns-in_err-fill-clause-fair g c = λ t. nothing_if c.from_residual.result _ c.from_residual.ensures.0
+returns-in_err-fill-clause-fair g c = λ t. IfOk-from_err c.from_residual.result _ c.from_residual.ensures.0
 
 pub returns-in_err-fill-clause-none : goal.returns-in_err-fill-clause-none
-returns-in_err-fill-clause-none g c = λ t. nothing_if c.from_residual.result _ c.from_residual.ensures.0
+returns-in_err-fill-clause-none g c = λ t. IfOk-from_err c.from_residual.result _ c.from_residual.ensures.0
 
 pub returns-in_err-fill-clause-ended : goal.returns-in_err-fill-clause-ended
-returns-in_err-fill-clause-ended g c = λ t. nothing_if c.from_residual.result _ c.from_residual.ensures.0
+returns-in_err-fill-clause-ended g c = λ t. IfOk-from_err c.from_residual.result _ c.from_residual.ensures.0
 
 pub returns-in_err-fill-clause-short : goal.returns-in_err-fill-clause-short
-returns-in_err-fill-clause-short g c = nothing_if c.from_residual.result _ c.from_residual.ensures.0
+returns-in_err-fill-clause-short g c = IfOk-from_err c.from_residual.result _ c.from_residual.ensures.0
 
 pub returns-in_err-fill-clause-given : goal.returns-in_err-fill-clause-given
-returns-in_err-fill-clause-given g c = nothing_if c.from_residual.result _ c.from_residual.ensures.0
+returns-in_err-fill-clause-given g c = IfOk-from_err c.from_residual.result _ c.from_residual.ensures.0
 
 pub returns-in_err-fill-clause-few : goal.returns-in_err-fill-clause-few
-returns-in_err-fill-clause-few g c = nothing_if c.from_residual.result _ c.from_residual.ensures.0
+returns-in_err-fill-clause-few g c = IfOk-from_err c.from_residual.result _ c.from_residual.ensures.0
 
 pub returns-in_err-fill-clause-still : goal.returns-in_err-fill-clause-still
-returns-in_err-fill-clause-still g c = nothing_if c.from_residual.result _ c.from_residual.ensures.0
+returns-in_err-fill-clause-still g c = IfOk-from_err c.from_residual.result _ c.from_residual.ensures.0
 
 pub returns-in_err-fill-clause-calm : goal.returns-in_err-fill-clause-calm
-returns-in_err-fill-clause-calm g c = nothing_on c.from_residual.result _ c.from_residual.ensures.0
+returns-in_err-fill-clause-calm g c = IfOk-from_err c.from_residual.result _ c.from_residual.ensures.0
 
 pub returns-in_err-fill-clause-too_long : goal.returns-in_err-fill-clause-too_long
 returns-in_err-fill-clause-too_long g c = λ t n e. absurd (no_long_line c.from_residual.result n c.from_residual.ensures.1 e)
@@ -53,31 +53,31 @@ pub returns-in_err-fill-clause-source : goal.returns-in_err-fill-clause-source
 returns-in_err-fill-clause-source g c = c.in_err-fill.ensures.source
 
 pub returns-in_err-by_newline-clause-line : goal.returns-in_err-by_newline-clause-line
-returns-in_err-by_newline-clause-line g c = λ t. nothing_if c.from_residual-in_err-by_newline.result _ c.from_residual-in_err-by_newline.ensures.0
+returns-in_err-by_newline-clause-line g c = λ t. IfOk-from_err c.from_residual-in_err-by_newline.result _ c.from_residual-in_err-by_newline.ensures.0
 
 pub returns-in_err-by_newline-clause-fair : goal.returns-in_err-by_newline-clause-fair
-returns-in_err-by_newline-clause-fair g c = λ t. nothing_if c.from_residual-in_err-by_newline.result _ c.from_residual-in_err-by_newline.ensures.0
+returns-in_err-by_newline-clause-fair g c = λ t. IfOk-from_err c.from_residual-in_err-by_newline.result _ c.from_residual-in_err-by_newline.ensures.0
 
 pub returns-in_err-by_newline-clause-none : goal.returns-in_err-by_newline-clause-none
-returns-in_err-by_newline-clause-none g c = λ t. nothing_if c.from_residual-in_err-by_newline.result _ c.from_residual-in_err-by_newline.ensures.0
+returns-in_err-by_newline-clause-none g c = λ t. IfOk-from_err c.from_residual-in_err-by_newline.result _ c.from_residual-in_err-by_newline.ensures.0
 
 pub returns-in_err-by_newline-clause-ended : goal.returns-in_err-by_newline-clause-ended
-returns-in_err-by_newline-clause-ended g c = λ t. nothing_if c.from_residual-in_err-by_newline.result _ c.from_residual-in_err-by_newline.ensures.0
+returns-in_err-by_newline-clause-ended g c = λ t. IfOk-from_err c.from_residual-in_err-by_newline.result _ c.from_residual-in_err-by_newline.ensures.0
 
 pub returns-in_err-by_newline-clause-short : goal.returns-in_err-by_newline-clause-short
-returns-in_err-by_newline-clause-short g c = nothing_if c.from_residual-in_err-by_newline.result _ c.from_residual-in_err-by_newline.ensures.0
+returns-in_err-by_newline-clause-short g c = IfOk-from_err c.from_residual-in_err-by_newline.result _ c.from_residual-in_err-by_newline.ensures.0
 
 pub returns-in_err-by_newline-clause-given : goal.returns-in_err-by_newline-clause-given
-returns-in_err-by_newline-clause-given g c = nothing_if c.from_residual-in_err-by_newline.result _ c.from_residual-in_err-by_newline.ensures.0
+returns-in_err-by_newline-clause-given g c = IfOk-from_err c.from_residual-in_err-by_newline.result _ c.from_residual-in_err-by_newline.ensures.0
 
 pub returns-in_err-by_newline-clause-few : goal.returns-in_err-by_newline-clause-few
-returns-in_err-by_newline-clause-few g c = nothing_if c.from_residual-in_err-by_newline.result _ c.from_residual-in_err-by_newline.ensures.0
+returns-in_err-by_newline-clause-few g c = IfOk-from_err c.from_residual-in_err-by_newline.result _ c.from_residual-in_err-by_newline.ensures.0
 
 pub returns-in_err-by_newline-clause-still : goal.returns-in_err-by_newline-clause-still
-returns-in_err-by_newline-clause-still g c = nothing_if c.from_residual-in_err-by_newline.result _ c.from_residual-in_err-by_newline.ensures.0
+returns-in_err-by_newline-clause-still g c = IfOk-from_err c.from_residual-in_err-by_newline.result _ c.from_residual-in_err-by_newline.ensures.0
 
 pub returns-in_err-by_newline-clause-calm : goal.returns-in_err-by_newline-clause-calm
-returns-in_err-by_newline-clause-calm g c = nothing_on c.from_residual-in_err-by_newline.result _ c.from_residual-in_err-by_newline.ensures.0
+returns-in_err-by_newline-clause-calm g c = IfOk-from_err c.from_residual-in_err-by_newline.result _ c.from_residual-in_err-by_newline.ensures.0
 
 pub returns-then-self-eq-MOST_LINES-clause-too_many : goal.returns-then-self-eq-MOST_LINES-clause-too_many
 returns-then-self-eq-MOST_LINES-clause-too_many g c = λ t n e.
@@ -98,7 +98,7 @@ returns-in_err-by_newline-clause-too_long g c = λ t n e.
     let left : List ℕ = g.S.Source.left c.fill.new.source Messages in
     let now : to_come c.fill.new.self left ≡ to_come c.args.self.now (g.S.Source.left c.args.source.now Messages) =
     c.in_ok-fill.ensures.same t in
-    let long = c.in_err-by_newline.ensures.too_long (c.in_ok-fill.ensures.source.stays_told t) n (ap (λ x. Err x) same)
+    let long = c.in_err-by_newline.ensures.too_long (c.in_ok-fill.ensures.source.continued.still_told t) n (ap (λ x. Err x) same)
     in
     let given : c.fill.new.self.given ≡ c.args.self.now.given = c.in_ok-fill.ensures.given in
     let number : n ≡ c.args.self.now.given + 1 = c.in_err-by_newline.ensures.number n (ap (λ x. Err x) same) ∙ ap
@@ -114,7 +114,7 @@ begins g c t =
     let now : to_come c.fill.new.self left ≡ to_come c.args.self.now (g.S.Source.left c.args.source.now Messages) =
     c.in_ok-fill.ensures.same t in
     let some : 0 < length (buffered c.fill.new.self) = c.in_ok-fill.ensures.some c.if-not-branch.false in
-    let told = c.in_ok-fill.ensures.source.stays_told t in
+    let told = c.in_ok-fill.ensures.source.continued.still_told t in
     let it = c.in_ok-by_newline.ensures in
     record {
       some = rw (← now) (omega (arith, length-append (buffered c.fill.new.self) left));

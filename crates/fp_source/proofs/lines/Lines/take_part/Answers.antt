@@ -1,5 +1,6 @@
 use Rattle.std.proofs.Common.{arith, ◌∙◌}
-use Rattle.fp_source.proofs.Errs.{nothing_if, nothing_on, memory_no_long_line, memory_no_line_too_many, memory_no_failed_read}
+use Rattle.std.proofs.lemmas.Result.{IfOk-from_err}
+use Rattle.fp_source.proofs.Errs.{memory_no_long_line, memory_no_line_too_many, memory_no_failed_read}
 use Rattle.fp_source.proofs.Pieces.{part_taken, long_joined, as_number}
 use Rattle.fp_source.proofs.lines.Lines.take_part.Goals as goal
 
@@ -10,10 +11,10 @@ returns-then-part-len-clause-too_long c = λ n e.
     c.requires.plain it (omega arith)
 
 pub returns-in_err-extend_from_slice-clause-part : goal.returns-in_err-extend_from_slice-clause-part
-returns-in_err-extend_from_slice-clause-part c = nothing_if c.from_residual.result _ c.from_residual.ensures.0
+returns-in_err-extend_from_slice-clause-part c = IfOk-from_err c.from_residual.result _ c.from_residual.ensures.0
 
 pub returns-in_err-extend_from_slice-clause-short : goal.returns-in_err-extend_from_slice-clause-short
-returns-in_err-extend_from_slice-clause-short c = nothing_on c.from_residual.result _ c.from_residual.ensures.0
+returns-in_err-extend_from_slice-clause-short c = IfOk-from_err c.from_residual.result _ c.from_residual.ensures.0
 
 pub returns-in_err-extend_from_slice-clause-too_long : goal.returns-in_err-extend_from_slice-clause-too_long
 returns-in_err-extend_from_slice-clause-too_long c = λ n e. absurd (memory_no_long_line c.from_residual.result n c.from_residual.ensures.1 e)

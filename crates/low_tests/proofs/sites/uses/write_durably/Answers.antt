@@ -35,40 +35,40 @@ module _ (set at count : ℕ) (h h1 : Disk) (law : IsLawful h) (law1 : IsLawful 
 
 pub returns-in_err-write_at-clause-only : goal.returns-in_err-write_at-clause-only
 returns-in_err-write_at-clause-only g c t =
-    let t1 = c.write_at.ensures.told t in
+    let t1 = c.write_at.ensures.site.still_told t in
     only1 c.args.set c.args.at (length c.args.from.now) _ _ (g.met.S.Site.lawful c.args.site.now t)
     (g.met.S.Site.lawful c.write_at.new.self t1) (c.write_at.ensures.leaves t) (c.write_at.ensures.crash t)
 
 pub returns-in_err-write_at-clause-torn : goal.returns-in_err-write_at-clause-torn
 returns-in_err-write_at-clause-torn g c t =
-    let t1 = c.write_at.ensures.told t in
+    let t1 = c.write_at.ensures.site.still_told t in
     torn1 c.args.set c.args.at (length c.args.from.now) _ _ (g.met.S.Site.lawful c.args.site.now t)
     (g.met.S.Site.lawful c.write_at.new.self t1) (c.write_at.ensures.leaves t) (c.write_at.ensures.crash t)
 
 pub returns-in_err-sync-clause-only : goal.returns-in_err-sync-clause-only
 returns-in_err-sync-clause-only g c t =
-    let t1 = c.write_at.ensures.told t in
+    let t1 = c.write_at.ensures.site.still_told t in
     only2 c.args.set c.args.at (length c.args.from.now) _ _ (g.met.S.Site.lawful c.args.site.now t)
     (g.met.S.Site.lawful c.write_at.new.self t1) (c.write_at.ensures.leaves t) (c.write_at.ensures.crash t) _
     (c.sync.ensures.leaves t1) (c.sync.ensures.crash t1)
 
 pub returns-in_err-sync-clause-torn : goal.returns-in_err-sync-clause-torn
 returns-in_err-sync-clause-torn g c t =
-    let t1 = c.write_at.ensures.told t in
+    let t1 = c.write_at.ensures.site.still_told t in
     torn2 c.args.set c.args.at (length c.args.from.now) _ _ (g.met.S.Site.lawful c.args.site.now t)
     (g.met.S.Site.lawful c.write_at.new.self t1) (c.write_at.ensures.leaves t) (c.write_at.ensures.crash t) _
     (c.sync.ensures.leaves t1) (c.sync.ensures.crash t1)
 
 pub returns-clause-only : goal.returns-clause-only
 returns-clause-only g c t =
-    let t1 = c.write_at.ensures.told t in
+    let t1 = c.write_at.ensures.site.still_told t in
     only2 c.args.set c.args.at (length c.args.from.now) _ _ (g.met.S.Site.lawful c.args.site.now t)
     (g.met.S.Site.lawful c.write_at.new.self t1) (c.write_at.ensures.leaves t) (c.write_at.ensures.crash t) _
     (c.sync.ensures.leaves t1) (c.sync.ensures.crash t1)
 
 pub returns-clause-torn : goal.returns-clause-torn
 returns-clause-torn g c t =
-    let t1 = c.write_at.ensures.told t in
+    let t1 = c.write_at.ensures.site.still_told t in
     torn2 c.args.set c.args.at (length c.args.from.now) _ _ (g.met.S.Site.lawful c.args.site.now t)
     (g.met.S.Site.lawful c.write_at.new.self t1) (c.write_at.ensures.leaves t) (c.write_at.ensures.crash t) _
     (c.sync.ensures.leaves t1) (c.sync.ensures.crash t1)

@@ -2,9 +2,9 @@ use Rattle.std.proofs.Common.{◌≡◌, ◌∙◌, Option, None, ℕ, ap, sym, 
 use Rattle.fp_site.specs.Disk.{Settles}
 use Rattle.msdb_checkpoint.specs.Steps.{IsSure, Turn, other_set}
 use Rattle.msdb_checkpoint.specs.declared.stages.UnderWay.{UnderWay}
-use Rattle.log_format.proofs.Fields.{some_is}
 use Rattle.msdb_checkpoint.proofs.StageLemmas.{at_slice, moved, moved_image, same_body, stands_at}
 use Rattle.msdb_checkpoint.proofs.checkpoints.Checkpoints.finish.Goals as goal
+use Rattle.std.proofs.lemmas.Option.{same_Some}
 
 pub returns-in_err-run-clause-crash : goal.returns-in_err-run-clause-crash
 returns-in_err-run-clause-crash g c u t was stands =
@@ -68,7 +68,7 @@ returns-clause-turn g c u was =
     let is = sym c.take.ensures.value ∙ c.in-Some.is in
     turned c.take.new.self c.args.self.now c.self.inside.set c.in-Some.under_way u c.take.ensures.after
     (ap (λ (t : Turn). t.set) view)
-    (some_is c.in-Some.under_way u (sym is ∙ ap (λ (t : Turn). t.under_way) view ∙ was))
+    (same_Some c.in-Some.under_way u (sym is ∙ ap (λ (t : Turn). t.under_way) view ∙ was))
 
 pub returns-clause-sure : goal.returns-clause-sure
 returns-clause-sure g c u t stands was =

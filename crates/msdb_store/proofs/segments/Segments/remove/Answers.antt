@@ -2,14 +2,15 @@ use Rattle.std.proofs.Common.{◌≡◌, ◌∙◌, ◌<◌, ◌∷◌, ◌++◌
 use Rattle.std.specs.Prelude.{remove}
 use Rattle.std.proofs.lemmas.List.{length-set}
 use Rattle.msdb_store.specs.Slots.{AreSlots, in_slots}
-use Rattle.msdb_store.proofs.Slots.{are_out, ok_then, take_out, used_length}
+use Rattle.msdb_store.proofs.Slots.{are_out, take_out, used_length}
 use Rattle.msdb_store.proofs.segments.Segments.remove.Goals as goal
+use Rattle.plain_laws.proofs.Results.{is_ok_then}
 
 -- the number comes behind all others
 behind : (c : goal.After-self-2-1) → c.push.new.self.items ≡ remove c.self.inside.order.items c.args.at ++
     c.remove-number.result ∷ []
 behind c =
-    ok_then c.push.result c.push.new.self.items (c.remove-number.new.self.items ++ c.remove-number.result ∷ [])
+    is_ok_then c.push.result c.push.new.self.items (c.remove-number.new.self.items ++ c.remove-number.result ∷ [])
     c.remove-number.new.self.items
     (c.push.ensures.succeeds (omega (
       arith,

@@ -2,14 +2,15 @@ use Rattle.std.proofs.Common.{◌≡◌, ◌∙◌, ◌<◌, ◌≤◌, ◌+◌,
 use Rattle.std.specs.Prelude.{insert, remove}
 use Rattle.std.proofs.lemmas.List.{length-set}
 use Rattle.msdb_store.specs.Slots.{AreSlots, in_slots}
-use Rattle.msdb_store.proofs.Slots.{are_put, ok_then, put_free, used_length}
+use Rattle.msdb_store.proofs.Slots.{are_put, put_free, used_length}
 use Rattle.msdb_store.proofs.segments.Segments.use_slot.Goals as goal
+use Rattle.plain_laws.proofs.Results.{is_ok_then}
 
 -- the first free number comes to its place
 placed : (c : goal.After-self-2-1) → c.insert.new.self.items ≡ insert
     (remove c.self.inside.order.items c.self.inside.used) c.args.at c.remove-number.result
 placed c =
-    ok_then c.insert.result c.insert.new.self.items
+    is_ok_then c.insert.result c.insert.new.self.items
     (insert c.remove-number.new.self.items c.args.at c.remove-number.result) c.remove-number.new.self.items
     (c.insert.ensures.succeeds (omega (
       arith,

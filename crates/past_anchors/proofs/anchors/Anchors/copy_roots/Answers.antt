@@ -3,9 +3,9 @@ use Rattle.fp_model.specs.State.{roots_at}
 use Rattle.fp_model.specs.declared.database.Msdb.{Msdb}
 use Rattle.fp_model.specs.declared.database.Root.{Root}
 use Rattle.past_anchors.specs.Databases.{FitsAnchor, state_of}
-use Rattle.past_anchors.proofs.Lists.{take_whole}
 use Rattle.past_anchors.proofs.Standing.{roots_fit}
 use Rattle.past_anchors.proofs.anchors.Anchors.copy_roots.Goals as goal
+use Rattle.plain_laws.proofs.Lists.{take_whole}
 
 copied : (c : goal.After-loop-root) (msdbs : List Msdb)
     → c.loop-root.copies ≡ roots_at (state_of msdbs c.args.self.now) c.args.dedb c.args.anchor

@@ -2,9 +2,9 @@ use Rattle.std.proofs.Common.{◌∙◌, ap, map, subst, sym, length, arith}
 use Rattle.std.specs.List.{AllZip}
 use Rattle.fp_model.specs.Shape.{IsDedbOf}
 use Rattle.fp_model.specs.State.{formatted}
-use Rattle.past_anchors.proofs.Lists.{take_whole}
 use Rattle.state_laws.proofs.Start.{all_formatted}
 use Rattle.past_anchors.proofs.anchors.Anchors.new.Goals as goal
+use Rattle.plain_laws.proofs.Lists.{take_whole}
 
 pub returns-clause-shape : goal.returns-clause-shape
 returns-clause-shape c =

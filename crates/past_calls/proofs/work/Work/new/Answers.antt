@@ -10,9 +10,10 @@ use Rattle.fp_model.specs.MsdbCalls.{puts_or_drops}
 use Rattle.fp_model.specs.Workspace.{MsdbPosition, Workspace, no_msdb_position}
 use Rattle.past_calls.specs.Progress.{FitsPosition}
 use Rattle.segment_keys.specs.Keys.{is_among}
-use Rattle.past_calls.proofs.BeginLemmas.{fresh_all, fresh_fit, fresh_positions}
+use Rattle.past_calls.proofs.BeginLemmas.{fresh_fit}
 use Rattle.past_calls.proofs.work.Work.new.Goals as goal
 use Rattle.past_calls.proofs.work.Work.new.Goals.{After-new-3}
+use Rattle.model_laws.proofs.Positions.{fresh_all, fresh_positions}
 
 all : (c : After-new-3) → c.loop.positions.items ≡ replicate (length c.args.defs.now.msdbs) no_msdb_position
 all c = fresh_all c.loop.counter c.loop.positions.items c.args.defs.now.msdbs c.loop.invariant

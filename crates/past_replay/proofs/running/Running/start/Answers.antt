@@ -10,17 +10,17 @@ use Rattle.fp_model.specs.Workspace.{Workspace, fresh}
 use Rattle.past_replay.specs.inside.Running.{now_of, rules_in}
 use Rattle.past_replay.proofs.GoingLemmas.{tied_so}
 use Rattle.past_replay.proofs.HoldingLemmas.{sees_none}
-use Rattle.past_replay.proofs.ListLemmas.{stands}
 use Rattle.past_replay.proofs.running.Running.start.Goals as goal
 use Rattle.state_laws.specs.Workspaces.{FitsWorkspace}
 use Rattle.state_laws.proofs.Alone.{fresh_fits, fresh_tied}
 use Rattle.txn_machine.specs.Running.{types_shown}
+use Rattle.plain_laws.proofs.Places.{get_there}
 
 pub returns : goal.returns
 returns c =
     let it = c.args.it.now in
     let scripts = it.scripts.now.scripts in
-    let there = stands scripts c.args.number c.requires.number in
+    let there = get_there scripts c.args.number c.requires.number in
     let script : Script = there.0 in
     let named : script_of scripts it.message.now.tran ≡ Some script = sym c.requires.named ∙ there.1 in
     let work = c.in_ok-work.work in

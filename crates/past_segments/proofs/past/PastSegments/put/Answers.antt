@@ -3,11 +3,13 @@ use Rattle.std.specs.List.{insert, list_any}
 use Rattle.fp_model.specs.Texts.{same_text}
 use Rattle.past_segments.specs.Times.{AreSlots, FitsSlot, HasKey, Rises, segments_at, value_at}
 use Rattle.past_segments.specs.declared.slot.Version.{Version}
-use Rattle.key_order.proofs.Ascending.{same_is}
-use Rattle.past_segments.proofs.PastLemmas.{changed, either, in_put, inserted, is_late_slot, late_insert, late_set, on_err, on_ok, over_put, same_here, set_itself, shows_same, shows_same_in}
+use Rattle.past_segments.proofs.PastLemmas.{changed, either, in_put, inserted, is_late_slot, late_insert, late_set, on_err, over_put, same_here, shows_same, shows_same_in}
 use Rattle.past_segments.proofs.Showing.{all_there}
 use Rattle.past_segments.proofs.Values.{value_from, value_stays}
 use Rattle.past_segments.proofs.past.PastSegments.put.Goals as goal
+use Rattle.plain_laws.proofs.Results.{on_ok}
+use Rattle.model_laws.proofs.Texts.{same_text_is}
+use Rattle.plain_laws.proofs.Places.{set_same}
 
 -- ---- the key is there
 
@@ -27,7 +29,7 @@ invariant_of-self c =
     let fits = all_there (FitsSlot c.self.inside.count) c.self.inside.slots c.in-Stands.at c.item_mut.result.now
     c.self.invariant.each c.item_mut.ensures.value in
     let its : take c.self.inside.count c.args.segment ≡ c.item_mut.result.now.key =
-    has c ∙ sym (same_is c.item_mut.result.now.key c.key_in.result.now (same c)) in
+    has c ∙ sym (same_text_is c.item_mut.result.now.key c.key_in.result.now (same c)) in
     changed c.self.inside.count c.self.inside.slots c.in-Stands.at c.item_mut.result.now c.set.new.self
     c.self.invariant c.item_mut.ensures.value c.set.ensures.key (record {
       rises = c.set.ensures.rises fits.rises;
@@ -52,7 +54,7 @@ pub returns-in-Stands-clause-err : goal.returns-in-Stands-clause-err
 returns-in-Stands-clause-err c = rw (sym c.self.view_is) (on_err c.set.result
     (λ e. ap (λ ss. record { count = c.self.inside.count; slots = ss })
     (ap (slice_set c.self.inside.slots c.in-Stands.at) e
-    ∙ set_itself c.self.inside.slots c.in-Stands.at c.item_mut.result.now c.item_mut.ensures.value))
+    ∙ set_same c.self.inside.slots c.in-Stands.at c.item_mut.result.now c.item_mut.ensures.value))
     c.set.ensures.err)
 
 pub returns-in-Stands-clause-late : goal.returns-in-Stands-clause-late

@@ -1,9 +1,11 @@
 use Rattle.std.proofs.Common.{◌≡◌, ◌∙◌, ap, sym, subst, slice_set, true}
 use Rattle.fp_model.specs.Texts.{same_text}
 use Rattle.past_segments.specs.Times.{FitsSlot, HasKey}
-use Rattle.past_segments.proofs.PastLemmas.{changed, late_set, none_drop, on_err, on_ok, over_drop, same_here, set_itself, shows_same}
+use Rattle.past_segments.proofs.PastLemmas.{changed, late_set, none_drop, on_err, over_drop, same_here, shows_same}
 use Rattle.past_segments.proofs.Showing.{all_there}
 use Rattle.past_segments.proofs.past.PastSegments.take_away.Goals as goal
+use Rattle.plain_laws.proofs.Results.{on_ok}
+use Rattle.plain_laws.proofs.Places.{set_same}
 
 -- the key there is the one that was looked for
 same : (c : goal.After-self-1) → same_text c.item_mut.result.now.key c.args.key.now ≡ true
@@ -40,7 +42,7 @@ pub returns-in-Stands-clause-err : goal.returns-in-Stands-clause-err
 returns-in-Stands-clause-err c = rw (sym c.self.view_is) (on_err c.set.result
     (λ e. ap (λ ss. record { count = c.self.inside.count; slots = ss })
     (ap (slice_set c.self.inside.slots c.in-Stands.at) e
-    ∙ set_itself c.self.inside.slots c.in-Stands.at c.item_mut.result.now c.item_mut.ensures.value))
+    ∙ set_same c.self.inside.slots c.in-Stands.at c.item_mut.result.now c.item_mut.ensures.value))
     c.set.ensures.err)
 
 pub returns-in-Stands-clause-late : goal.returns-in-Stands-clause-late

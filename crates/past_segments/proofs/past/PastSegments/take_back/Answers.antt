@@ -3,8 +3,9 @@ use Rattle.fp_model.specs.Texts.{same_text}
 use Rattle.past_segments.specs.declared.slot.Slot.{Slot}
 use Rattle.past_segments.specs.Times.{EndsBy, FitsSlot, HasKey}
 use Rattle.past_segments.proofs.PastLemmas.{changed, early, late_no_more, late_set, never_late, same_here, shows_same}
-use Rattle.past_segments.proofs.Showing.{all_set, all_there}
+use Rattle.past_segments.proofs.Showing.{all_there}
 use Rattle.past_segments.proofs.past.PastSegments.take_back.Goals as goal
+use Rattle.plain_laws.proofs.Alls.{all_set}
 
 -- the key there is the one that was looked for
 same : (c : goal.After-self-1) → same_text c.item_mut.result.now.key c.args.key.now ≡ true

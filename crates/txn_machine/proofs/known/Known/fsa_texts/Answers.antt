@@ -3,10 +3,10 @@ use Rattle.std.specs.Prelude.{option_map}
 use Rattle.fp_model.specs.Fsas.{list_text}
 use Rattle.fp_model.specs.Operands.{Env, fsas_given}
 use Rattle.fp_model.specs.declared.scripts.FsaText.{FsaText}
-use Rattle.fld_calls.proofs.WriteLemmas.{from-item}
 use Rattle.txn_machine.specs.Knowing.{env_of}
 use Rattle.txn_machine.proofs.GivenLemmas.{AreSpelled, spelled_on, text_put}
 use Rattle.txn_machine.proofs.known.Known.fsa_texts.Goals as goal
+use Rattle.plain_laws.proofs.Places.{rest_at}
 
 pub loop-fsa-preserved : goal.loop-fsa-preserved
 loop-fsa-preserved c =
@@ -17,7 +17,7 @@ loop-fsa-preserved c =
     let i = c.loop-fsa.fsa-index in
     let f : FsaText = c.fsa-item.result in
     let text = c.loop-fsa.text in
-    let here : drop i fsas ≡ f ∷ drop (i + 1) fsas = from-item fsas i f c.loop-fsa-test.true c.fsa-item.is in
+    let here : drop i fsas ≡ f ∷ drop (i + 1) fsas = rest_at fsas i f c.loop-fsa-test.true c.fsa-item.is in
     let left : length (drop (i + 1) fsas) ≡ c.loop-fsa.left - 1 =
     omega (arith, length-drop (i + 1) fsas, c.loop-fsa.invariant.many, c.loop-fsa-test.true) in
     record {

@@ -13,8 +13,8 @@ use Rattle.txn_lang.specs.Suiting.{suits_step}
 use Rattle.fp_model.specs.FitCalls.{fits_step}
 use Rattle.txn_lang.proofs.Fitting.{fits_judges, suits_judges}
 use Rattle.txn_machine.specs.inside.Stepping.{IsDeed}
-use Rattle.txn_machine.proofs.EndLemmas.{stands_at}
 use Rattle.txn_machine.proofs.program.Program.step.Goals as goal
+use Rattle.plain_laws.proofs.Places.{stands_at}
 
 -- the statement at the place, and its deed
 deed_here : (c : goal.After-act) → IsDeed c.args.defs.now c.args.statements.now c.args.message.now

@@ -1,0 +1,2 @@
+pub mod ContinuedLemmas
+pub mod FaultLemmas

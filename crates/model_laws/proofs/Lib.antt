@@ -1,0 +1,10 @@
+pub mod Entries
+pub mod Layouts
+pub mod Numberings
+pub mod Numerals
+pub mod Positions
+pub mod Resources
+pub mod Segments
+pub mod Texts
+pub mod Figures
+pub mod Lines

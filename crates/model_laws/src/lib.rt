@@ -1,0 +1,2 @@
+//! Laws of what the model defines, of texts, layouts, segments and entries, each proved once for the crates above.
+#![tactic(auto)]

@@ -1,0 +1,9 @@
+pub mod Alls
+pub mod Digits
+pub mod Lists
+pub mod Numbers
+pub mod Options
+pub mod Orderings
+pub mod Places
+pub mod Results
+pub mod Truths

@@ -1,0 +1,2 @@
+//! Laws of truths, numbers, options, results and lists, each proved once for all crates above.
+#![tactic(auto)]
