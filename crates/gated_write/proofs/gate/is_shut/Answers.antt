@@ -1,8 +1,9 @@
-use Rattle.std.proofs.Common.{refl, ◌∙◌, arith}
+use Rattle.std.proofs.Common.{refl, sym, ap, inl, inr, ◌∙◌, arith}
 use Rattle.std.proofs.lemmas.Result.{IfOk-from_err}
 use Rattle.fp_lists.proofs.ContinuedLemmas.{continued_both}
 use Rattle.fp_lists.proofs.FaultLemmas.{counts_err, counts_ok}
 use Rattle.fp_site.proofs.Runs.{stays_then}
+use Rattle.gated_write.proofs.Shutting.{looked_closed, looked_open}
 use Rattle.gated_write.proofs.gate.is_shut.Goals as goal
 
 -- ---- the length isn't told
@@ -102,3 +103,20 @@ returns-clause-few g c t =
 
 pub returns-clause-site : goal.returns-clause-site
 returns-clause-site g c = continued_both _ _ _ _ _ _ _ c.size.ensures.site c.read_at.ensures.site
+
+pub returns-clause-shut : goal.returns-clause-shut
+returns-clause-shut g c t not_one =
+    looked_closed _ _ _ _ (c.in_ok-size.ensures.value t) c.if-branch-eq0.false
+    (ap (λ f. f c.args.set) (c.size.ensures.stays t).contents)
+    (c.in_ok-read_at.ensures.value (c.size.ensures.site.still_told t)) not_one
+
+pub returns-clause-open : goal.returns-clause-open
+returns-clause-open g c t one =
+    inr (looked_open _ _ _ (ap (λ f. f c.args.set) (c.size.ensures.stays t).contents)
+    (c.in_ok-read_at.ensures.value (c.size.ensures.site.still_told t)) one)
+
+pub returns-then-branch-eq0-clause-shut : goal.returns-then-branch-eq0-clause-shut
+returns-then-branch-eq0-clause-shut g c t shut = absurd cc
+
+pub returns-then-branch-eq0-clause-open : goal.returns-then-branch-eq0-clause-open
+returns-then-branch-eq0-clause-open g c t one = inl (sym (c.in_ok-size.ensures.value t) ∙ c.if-branch-eq0.true)
