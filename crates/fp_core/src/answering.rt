@@ -1,19 +1,21 @@
 //! An active region runs to its next call, and answers it where it needs no lock.
 ghost use Rattle.ci_locks.specs.Table.{standing};
 ghost use Rattle.fp_core.specs.inside.Acting.{HasActed, IsAtWork, MayEnd};
-ghost use Rattle.fp_core.specs.inside.Answering.{IsActed};
+ghost use Rattle.fp_core.specs.inside.Answering.{IsActed, IsCalling, IsReplying};
 ghost use Rattle.fp_core.specs.Relation.{IsAhead, IsSetup, IsTransaction, rules_in};
 ghost use Rattle.fp_model.specs.Machine.{Machine, Transaction};
 ghost use Rattle.fp_model.specs.declared.database.Db.{Db};
+ghost use Rattle.fp_model.specs.declared.definitions.Defs.{Defs as DefsOf};
+ghost use Rattle.fp_model.specs.declared.scripts.Script.{Script};
 ghost use Rattle.msdb_store.specs.Store.{IsOf};
-ghost use Rattle.std.specs.Prelude.{◌≡◌, ◌≤◌, IfOk, None, OnErr, length};
+ghost use Rattle.std.specs.Prelude.{◌≡◌, ◌≤◌, ℕ, IfOk, List as ListOf, None, OnErr, length};
 
 use crate::engine::{Active, Ahead, Engine, Region};
 use crate::locking::{copy_of, first_unheld};
 use ci_locks::Locks;
 use dli_calls::{Ready, answer};
 use fp_exits::Exits;
-use fp_model::{Bytes, Defs, Mode, Resource};
+use fp_model::{Bytes, Call, Defs, List, Mode, Resource};
 use msdb_store::MsdbStore;
 use std::alloc::{AllocError, Global};
 use sync_point::resources;
@@ -84,6 +86,76 @@ fn look_ahead(
     }
 }
 
+// What it does next is a call: it is answered where it needs no lock, and else kept.
+fn take_call(
+    active: &mut Active,
+    call: Call,
+    alloc: Global,
+    defs: &Defs,
+    exits: &Exits,
+    store: &MsdbStore,
+    locks: &Locks,
+    region: u8,
+    count: u64,
+) -> Result<Acted, AllocError>
+    requires store { IsOf defs.now.msdbs store.now }
+    requires some { 1 ≤ region }
+    requires within { region ≤ length locks.now }
+    requires under { (scripts : ListOf Script) × ((t : Transaction) × IsCalling defs.now scripts active.old t call) }
+    ensures acted { (scripts : ListOf Script) (now : Db) (t : Transaction) → now.msdbs ≡ store.now.msdbs
+        → IsCalling defs.now scripts active.old t call
+        → IfOk result (IsActed defs.now scripts ((standing locks.now).holds region) now count t active.new) }
+    ensures err { (scripts : ListOf Script) (t : Transaction) → IsTransaction defs.now scripts active.old t
+        → OnErr result (IsTransaction defs.now scripts active.new t) }
+{
+    let ready = answer(
+        alloc,
+        &mut active.work,
+        &call,
+        store,
+        defs,
+        exits,
+        locks,
+        region,
+        count,
+    )?;
+    match ready {
+        Ready::Answer(given) => {
+            active.program.give(given);
+            Ok(Acted::Answered)
+        }
+        Ready::Need(resource, mode) => {
+            active.ahead = Some(Ahead::Call(call));
+            Ok(Acted::Needs(resource, mode))
+        }
+    }
+}
+
+// Its script is at its end with a reply. Where its sync point needs a lock the reply is kept.
+fn take_reply(
+    active: &mut Active,
+    text: Bytes,
+    segments: List<Resource>,
+    locks: &Locks,
+    region: u8,
+) -> Result<Acted, AllocError>
+    requires some { 1 ≤ region }
+    requires within { region ≤ length locks.now }
+    ensures acted { (defs : DefsOf) (scripts : ListOf Script) (now : Db) (count : ℕ) (t : Transaction)
+        → IsReplying defs scripts active.old t text segments
+        → IfOk result (IsActed defs scripts ((standing locks.now).holds region) now count t active.new) }
+    ensures err { OnErr result (active.new ≡ active.old) }
+{
+    match first_unheld(locks, region, segments.as_slice()) {
+        Some(resource) => {
+            let lack = copy_of(resource)?;
+            active.ahead = Some(Ahead::Reply { text, segments });
+            Ok(Acted::Needs(lack, Mode::Exclusive))
+        }
+        Option::None => Ok(Acted::Replies(text)),
+    }
+}
+
 // Runs one transaction to its next call, and answers it where it needs no lock. What needs one is kept.
 fn go_on(
     active: &mut Active,
@@ -111,37 +183,11 @@ fn go_on(
     let ahead = look_ahead(active, alloc, defs, scripts)?;
     match ahead {
         Ahead::Call(call) => {
-            match answer(
-                alloc,
-                &mut active.work,
-                &call,
-                store,
-                defs,
-                exits,
-                locks,
-                region,
-                count,
-            )? {
-                Ready::Answer(given) => {
-                    active.program.give(given);
-                    Ok(Acted::Answered)
-                }
-                Ready::Need(resource, mode) => {
-                    active.ahead = Some(Ahead::Call(call));
-                    Ok(Acted::Needs(resource, mode))
-                }
-            }
+            take_call(
+                active, call, alloc, defs, exits, store, locks, region, count,
+            )
         }
-        Ahead::Reply { text, segments } => {
-            match first_unheld(locks, region, segments.as_slice()) {
-                Some(resource) => {
-                    let lack = copy_of(resource)?;
-                    active.ahead = Some(Ahead::Reply { text, segments });
-                    Ok(Acted::Needs(lack, Mode::Exclusive))
-                }
-                Option::None => Ok(Acted::Replies(text)),
-            }
-        }
+        Ahead::Reply { text, segments } => take_reply(active, text, segments, locks, region),
         Ahead::Roll(code) => Ok(Acted::Rolls(code)),
     }
 }

@@ -132,7 +132,8 @@ impl<'a> Core<'a> {
         ensures beside { (origin : Origin) (m : Machine) → T.told site.old → S.told source.old
             → StandsBeside origin (T.disk site.old) self.old.lines (S.left source.old Part.Messages) self.old.engine m
             → IfOk result (WentBeside origin self.old.engine.defs.now (rules_in self.old.engine) m
-            (T.disk site.old) (T.disk site.new) self.old.lines self.new.lines (S.left source.new Part.Messages) self.new.engine) }
+            (T.disk site.old) (T.disk site.new) self.old.lines self.new.lines (S.left source.new Part.Messages)
+            self.new.engine) }
         ensures ended { S.told source.old → IfOk result (λ more. more ≡ false
             → to_come self.new.lines (S.left source.new Part.Messages) ≡ []) }
         ensures fair { S.told source.old → OnOk result (fault_ahead self.new.lines (S.left source.new Part.Messages)

@@ -13,11 +13,12 @@ use Rattle.fp_model.specs.Machine.{Transaction}
 use Rattle.fp_model.specs.Product.{rules_of}
 use Rattle.fp_model.specs.Rules.{Rules}
 use Rattle.fp_model.specs.Serial.{after_call}
+use Rattle.fp_model.specs.Settle.{resources}
 use Rattle.fp_model.specs.Turns.{asks, noted}
 use Rattle.fp_core.specs.declared.answering.Acted.{Acted}
 use Rattle.fp_core.specs.declared.answering.Acted.TheVariants as acted
 use Rattle.fp_core.specs.declared.engine.Active.{Active}
-use Rattle.fp_core.specs.Relation.{IsTransaction}
+use Rattle.fp_core.specs.Relation.{IsCallAhead, IsSetup, IsTransaction}
 
 -- the lock that is needed for what a transaction does next, where its region holds these resources
 abbrev pub lock_for : Rules → (Resource → Option Mode) → Db → Transaction → Ask → Option Needed
@@ -25,6 +26,21 @@ lock_for rules held now t (Asks call) = rules.need now t.point.own held call
 lock_for rules held now t (Replies reply) =
     option_map (λ resource. record { resource = resource; mode = Exclusive }) (rules.lack t.point.own held)
 lock_for rules held now t (Rolls code) = None
+
+-- what it does next, once that is taken from it, is this call
+pub record IsCalling (defs : Defs) (scripts : List Script) (active : Active) (t : Transaction) (call : Call) : Type 0
+  where
+    pub setup : IsSetup defs scripts
+    pub is : IsTransaction defs scripts active t
+    pub ahead : IsCallAhead defs scripts active.program t call
+    pub taken : active.ahead ≡ None
+
+-- or this reply
+pub record IsReplying (defs : Defs) (scripts : List Script) (active : Active) (t : Transaction) (text : List ℕ)
+    (segments : List Resource) : Type 0 where
+  pub is : IsTransaction defs scripts active t
+  pub asked : asks (rules_of defs scripts) t ≡ Replies text
+  pub needs : segments ≡ resources t.point.own.deferred
 
 -- A transaction, whose region holds these resources, where this is the state now, behind so many entries.
 module _ (defs : Defs) (scripts : List Script) (held : Resource → Option Mode) (now : Db) (count : ℕ) (t : Transaction)

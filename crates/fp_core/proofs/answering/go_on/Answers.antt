@@ -1,175 +1,71 @@
-use Rattle.std.proofs.Common.{◌≡◌, sym, ◌∙◌, ap, subst, ℕ, List, ◌∷◌, ◌++◌, [], Option, Some, None, true}
-use Rattle.std.specs.Prelude.{option_map}
-use Rattle.ci_locks.specs.Table.{standing}
-use Rattle.fp_model.specs.declared.calls.Answer.{Answer}
-use Rattle.fp_model.specs.declared.calls.Resource.{Resource}
-use Rattle.fp_model.specs.Answers.{Replied}
-use Rattle.fp_model.specs.Asking.{Ask, Replies, Rolls}
-use Rattle.dli_calls.proofs.TargetLemmas.{leaves_msdb, msdb_fits, msdb_only}
-use Rattle.dli_calls.specs.Targets.{IfDedb, LeavesDedbs}
-use Rattle.fp_exits.specs.Kinds.{has_kind, kinds_of}
-use Rattle.fp_model.specs.Calls.{database_of, reply_to, looks_unheld, target_of}
-use Rattle.fp_model.specs.WellFormed.{IsDedbDef}
-use Rattle.std.specs.List.{AllByRecursion}
-use Rattle.fp_model.specs.Commit.{lacking}
+use Rattle.std.proofs.Common.{◌≡◌, sym, subst}
+use Rattle.fp_model.specs.Asking.{Replies, Rolls}
 use Rattle.fp_model.specs.Product.{rules_of}
 use Rattle.fp_model.specs.Settle.{resources}
-use Rattle.fp_model.specs.Turns.{asks, noted}
-use Rattle.fp_model.specs.Workspace.{Workspace}
-use Rattle.txn_machine.specs.Running.{IsAt}
-use Rattle.fp_core.specs.declared.engine.Ahead.TheVariants as ahead
-use Rattle.fp_core.specs.inside.Answering.{lock_for}
-use Rattle.fp_core.specs.Relation.{IsAhead, IsCallAhead}
-use Rattle.fp_core.proofs.Goings.{as_exclusive, keeps, needs_are, noted_is, nothing}
-use Rattle.fp_core.proofs.Lacks.{is_first_lack}
+use Rattle.fp_model.specs.Turns.{asks}
+use Rattle.fp_core.specs.Relation.{IsAhead}
 use Rattle.fp_core.proofs.answering.go_on.Goals as goal
+use Rattle.std.proofs.lemmas.Result.{IfOk-from_err}
+use Rattle.plain_laws.proofs.Results.{on_err, on_err_by}
+use Rattle.fp_core.specs.declared.engine.Active.{Active}
+use Rattle.fp_core.specs.Relation.{IsTransaction}
 
-pub answer-requires-clause-work : goal.answer-requires-clause-work
-answer-requires-clause-work g c = (c.look_ahead.ensures.same c.requires.under.0 c.requires.under.1).of
+pub take_call-requires-clause-under : goal.take_call-requires-clause-under
+take_call-requires-clause-under g c =
+    let u = c.requires.under in (
+      c.args.scripts.now.scripts,
+      (
+        u.0,
+        record {
+          setup = c.requires.setup;
+          is = c.look_ahead.ensures.same u.0 u.1;
+          ahead = subst (IsAhead c.args.defs.now c.args.scripts.now.scripts c.look_ahead.new.active.program u.0)
+              c.in-Call.is (c.in_ok-ahead.ensures.is u.0 u.1);
+          taken = c.look_ahead.ensures.taken;
+        },
+      ),
+    )
 
-pub answer-requires-clause-call : goal.answer-requires-clause-call
-answer-requires-clause-call g c =
-    let u = c.requires.under in
-    let is : IsCallAhead c.args.defs.now c.args.scripts.now.scripts c.look_ahead.new.active.program u.0 c.in-Call.call =
-    subst (IsAhead c.args.defs.now c.args.scripts.now.scripts c.look_ahead.new.active.program u.0) c.in-Call.is
-    (c.in_ok-ahead.ensures.is u.0 u.1) in
-    msdb_fits c.args.defs.now c.look_ahead.new.active.work c.in-Call.call is.fits
+pub returns-in_err-ahead-clause-acted : goal.returns-in_err-ahead-clause-acted
+returns-in_err-ahead-clause-acted g c now t e s =
+    IfOk-from_err c.from_residual.result _ c.from_residual.ensures.0
 
-pub answer-requires-clause-known : goal.answer-requires-clause-known
-answer-requires-clause-known g c =
-    let u = c.requires.under in
-    let is : IsCallAhead c.args.defs.now c.args.scripts.now.scripts c.look_ahead.new.active.program u.0 c.in-Call.call =
-    subst (IsAhead c.args.defs.now c.args.scripts.now.scripts c.look_ahead.new.active.program u.0) c.in-Call.is
-    (c.in_ok-ahead.ensures.is u.0 u.1) in
-    msdb_only c.args.defs.now _ c.in-Call.call is.fits
+pub returns-in_err-ahead-clause-err : goal.returns-in_err-ahead-clause-err
+returns-in_err-ahead-clause-err g c t s = on_err c.from_residual.result (c.look_ahead.ensures.same t s)
 
--- there are no data entry databases
-pub answer-requires-clause-dedbs : goal.answer-requires-clause-dedbs
-answer-requires-clause-dedbs g c = subst (AllByRecursion IsDedbDef) (sym c.requires.setup.no_dedbs) tt
-
-pub answer-requires-clause-exits : goal.answer-requires-clause-exits
-answer-requires-clause-exits g c =
-    subst (AllByRecursion (λ dedb. has_kind (kinds_of c.args.exits.now).spreaders dedb.randomizer ≡ true))
-    (sym c.requires.setup.no_dedbs) tt
-
-pub give-requires : goal.give-requires
-give-requires g c =
-    let u = c.requires.under in
-    let is : IsCallAhead c.args.defs.now c.args.scripts.now.scripts c.look_ahead.new.active.program u.0 c.in-Call.call =
-    subst (IsAhead c.args.defs.now c.args.scripts.now.scripts c.look_ahead.new.active.program u.0) c.in-Call.is
-    (c.in_ok-ahead.ensures.is u.0 u.1) in
-    (c.in-Call.call, is.waits)
-
-pub returns-in-Answer-clause-acted : goal.returns-in-Answer-clause-acted
-returns-in-Answer-clause-acted g c now t e s =
-    let defs = c.args.defs.now in
-    let scripts = c.args.scripts.now.scripts in
-    let call = c.in-Call.call in
-    let given : Answer = c.in-Answer.given in
-    let one = c.look_ahead.new.active in
-    let s1 = c.look_ahead.ensures.same t s in
-    let is : IsCallAhead defs scripts one.program t call =
-    subst (IsAhead defs scripts one.program t) c.in-Call.is (c.in_ok-ahead.ensures.is t s) in
-    let old = one.work in
-    let new = c.answer.new.work in
-    let alone : (P : Type 0) → IfDedb (target_of defs (database_of call)) P = λ P. msdb_only defs P call is.fits in
-    let needed = rw c.in-Answer.is at (c.in_ok-given-in-Call.ensures.need now e (alone _)) in
-    let answered : reply_to defs now now old.own call ≡ record { answer = given; own = new.own } =
-    rw c.in-Answer.is at (c.in_ok-given-in-Call.ensures.answer now e (alone _)) in
-    let reply : reply_to defs now now t.point.own call ≡ record { answer = given; own = new.own } =
-    ap (λ own. reply_to defs now now own call) (sym s1.own) ∙ answered in
-    let own : (reply_to defs now now t.point.own call).own ≡ new.own = ap (λ (r : Replied). r.own) reply in
-    let notes = rw c.in-Answer.is at c.in_ok-given-in-Call.ensures.notes in
-    let looks : looks_unheld defs old.own call ≡ looks_unheld defs t.point.own call =
-    ap (λ own. looks_unheld defs own call) s1.own in
-    let fits = rw c.in-Answer.is at c.in_ok-given-in-Call.ensures.shown in
-    let others : LeavesDedbs old new = leaves_msdb defs call old new is.fits c.answer.ensures.others in
-    record {
-      call = call;
-      asked = is.asked;
-      ready = needs_are defs scripts one t s1 ((standing c.args.locks.now).holds c.args.region) now call None needed;
-      is = record {
-        from = s1.from;
-        message = s1.message;
-        short = s1.short;
-        tries = s1.tries;
-        refusal = s1.refusal;
-        own = sym own;
-        notes = notes ∙ noted_is (rules_of defs scripts) (looks_unheld defs old.own call) old.notes c.args.count
-            ∙ ap (λ b. noted (rules_of defs scripts) b old.notes c.args.count) looks
-            ∙ ap (λ (ns : List ℕ). noted (rules_of defs scripts) (looks_unheld defs t.point.own call) ns c.args.count)
-            s1.notes;
-        of = c.answer.ensures.of;
-        changes = ap (λ (w : Workspace). w.changes) own ∙ others.changes ∙ ap (λ (w : Workspace). w.changes)
-            s1.own ∙ s1.changes;
-        inserts = ap (λ (w : Workspace). w.inserts) own ∙ others.inserts ∙ ap (λ (w : Workspace). w.inserts)
-            s1.own ∙ s1.inserts;
-        script = s1.script;
-        named = s1.named;
-        numbered = rw c.give.ensures.number s1.numbered;
-        at = subst (λ (a : Answer). IsAt defs s1.script.statements t.message (t.point.answers ++ a ∷ [])
-            c.give.new.self)
-            (sym (ap (λ (r : Replied). r.answer) reply))
-            (c.give.ensures.at defs s1.script.statements t.message t.point.answers s1.at);
-        fit = c.give.ensures.fit defs call is.waits s1.fit fits;
-        ahead = nothing _ one.ahead c.look_ahead.ensures.taken;
-      };
-    }
-
-pub returns-in-Need-clause-acted : goal.returns-in-Need-clause-acted
-returns-in-Need-clause-acted g c now t e s =
-    let defs = c.args.defs.now in
-    let scripts = c.args.scripts.now.scripts in
-    let call = c.in-Call.call in
-    let one = c.look_ahead.new.active in
-    let s1 = c.look_ahead.ensures.same t s in
-    let held = (standing c.args.locks.now).holds c.args.region in
-    let is : IsCallAhead defs scripts one.program t call =
-    subst (IsAhead defs scripts one.program t) c.in-Call.is (c.in_ok-ahead.ensures.is t s) in
-    let needed = rw c.in-Need.is at (c.in_ok-given-in-Call.ensures.need now e (msdb_only defs _ call is.fits)) in
-    let same = rw c.in-Need.is at c.in_ok-given-in-Call.ensures.needing in
-    record {
-      needs = ap (λ (a : Ask). lock_for (rules_of defs scripts) held now t a) is.asked
-          ∙ needs_are defs scripts one t s1 held now call
-          (Some (record { resource = c.in-Need.resource; mode = c.in-Need.mode })) needed;
-      is = rw same (keeps defs scripts one t s1 (Some (ahead.Call call)) is);
-    }
-
-pub returns-in_ok-lack-in-Some-clause-acted : goal.returns-in_ok-lack-in-Some-clause-acted
-returns-in_ok-lack-in-Some-clause-acted g c now t e s =
-    let defs = c.args.defs.now in
-    let scripts = c.args.scripts.now.scripts in
-    let one = c.look_ahead.new.active in
-    let s1 = c.look_ahead.ensures.same t s in
-    let held = (standing c.args.locks.now).holds c.args.region in
-    let is : (asks (rules_of defs scripts) t ≡ Replies c.in-Reply.text)
-    × (c.in-Reply.segments ≡ resources t.point.own.deferred) =
-    subst (IsAhead defs scripts one.program t) c.in-Reply.is (c.in_ok-ahead.ensures.is t s) in
-    let found = rw c.in-Some.is at c.first_unheld.ensures in
-    let lack : lacking t.point.own held ≡ Some c.in_ok-lack-in-Some.lack =
-    sym (ap (λ (r : Resource). Some r) c.in_ok-lack-in-Some.ensures ∙ found
-    ∙ is_first_lack held t c.as_slice.result.now (c.as_slice.ensures ∙ is.1)) in
-    record {
-      needs = ap (λ (a : Ask). lock_for (rules_of defs scripts) held now t a) is.0
-          ∙ ap (λ (o : Option Resource). option_map (λ resource. as_exclusive resource) o) lack;
-      is = keeps defs scripts one t s1 (Some (ahead.Reply c.in-Reply.text c.in-Reply.segments)) is;
-    }
-
-pub returns-in-None-clause-acted : goal.returns-in-None-clause-acted
-returns-in-None-clause-acted g c now t e s =
-    let defs = c.args.defs.now in
-    let scripts = c.args.scripts.now.scripts in
-    let one = c.look_ahead.new.active in
-    let held = (standing c.args.locks.now).holds c.args.region in
-    let is : (asks (rules_of defs scripts) t ≡ Replies c.in-Reply.text)
-    × (c.in-Reply.segments ≡ resources t.point.own.deferred) =
-    subst (IsAhead defs scripts one.program t) c.in-Reply.is (c.in_ok-ahead.ensures.is t s) in
-    let found = rw c.in-None.is at c.first_unheld.ensures in
-    record {
-      asked = is.0;
-      lacks_none = sym (found ∙ is_first_lack held t c.as_slice.result.now (c.as_slice.ensures ∙ is.1));
+pub returns-in-Call-clause-acted : goal.returns-in-Call-clause-acted
+returns-in-Call-clause-acted g c now t e s =
+    c.take_call.ensures.acted c.args.scripts.now.scripts now t e (record {
+      setup = c.requires.setup;
       is = c.look_ahead.ensures.same t s;
-    }
+      ahead = subst (IsAhead c.args.defs.now c.args.scripts.now.scripts c.look_ahead.new.active.program t) c.in-Call.is
+          (c.in_ok-ahead.ensures.is t s);
+      taken = c.look_ahead.ensures.taken;
+    })
+
+pub returns-in-Call-clause-err : goal.returns-in-Call-clause-err
+returns-in-Call-clause-err g c t s =
+    c.take_call.ensures.err c.args.scripts.now.scripts t (c.look_ahead.ensures.same t s)
+
+pub returns-in-Reply-clause-acted : goal.returns-in-Reply-clause-acted
+returns-in-Reply-clause-acted g c now t e s =
+    let defs = c.args.defs.now in
+    let scripts = c.args.scripts.now.scripts in
+    let is : (asks (rules_of defs scripts) t ≡ Replies c.in-Reply.text)
+    × (c.in-Reply.segments ≡ resources t.point.own.deferred) =
+    subst (IsAhead defs scripts c.look_ahead.new.active.program t) c.in-Reply.is (c.in_ok-ahead.ensures.is t s) in
+    c.take_reply.ensures.acted defs scripts now c.args.count t
+    (record { is = c.look_ahead.ensures.same t s; asked = is.0; needs = is.1 })
+
+pub returns-in-Reply-clause-err : goal.returns-in-Reply-clause-err
+returns-in-Reply-clause-err g c t s =
+    on_err_by (c.take_reply.new.active ≡ c.look_ahead.new.active)
+    (IsTransaction c.args.defs.now c.args.scripts.now.scripts c.take_reply.new.active t) c.take_reply.result
+    (λ same. subst (λ (a : Active). IsTransaction c.args.defs.now c.args.scripts.now.scripts a t) (sym same)
+    (c.look_ahead.ensures.same t s)) c.take_reply.ensures.err
+
+pub returns-in-Roll-clause-err : goal.returns-in-Roll-clause-err
+returns-in-Roll-clause-err g c t s = tt
 
 pub returns-in-Roll-clause-acted : goal.returns-in-Roll-clause-acted
 returns-in-Roll-clause-acted g c now t e s =

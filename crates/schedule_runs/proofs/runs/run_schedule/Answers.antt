@@ -1,4 +1,12 @@
-use Rattle.std.proofs.Common.{refl, sym, ap, subst, []}
+use Rattle.fp_core.proofs.Exits.{err_of_stop}
+use Rattle.gated_write.proofs.Calls.{reads_nothing_both}
+use Rattle.fp_core.specs.Standing.{IsCausedBySite, IsCausedBySource, number_of}
+use Rattle.fp_lists.proofs.ContinuedLemmas.{continued_both}
+use Rattle.fp_source.proofs.Calls.{reads_joined}
+use Rattle.std.proofs.lemmas.Result.{IfOk-from_err}
+use Rattle.std.specs.Prelude.{option_map}
+use Rattle.fp_core.specs.declared.stop.Stop.TheVariants as stops
+use Rattle.std.proofs.Common.{refl, sym, ap, subst, [], ℕ, ◌∙◌}
 use Rattle.fp_site.specs.Moments.{Through}
 use Rattle.fp_source.specs.declared.part.Part.TheVariants as part
 use Rattle.fp_core.specs.Relation.{rules_in}
@@ -126,3 +134,144 @@ returns-clause-front g c told =
     (fronts_on disk (g.T.Site.disk c.take_events.new.site) (g.T.Site.disk c.drain.new.site) gate
     c.take_events.new.core.engine.log.gate (t.front told) (c.in_ok-take_events.ensures.front_on told)
     (c.drain.ensures.front (t.site.still_told told)))
+
+-- ---- faults, stops, and what stays
+
+pub returns-in_err-take_events-clause-reached : goal.returns-in_err-take_events-clause-reached
+returns-in_err-take_events-clause-reached g c = IfOk-from_err c.from_residual.result _ c.from_residual.ensures.0
+
+pub returns-in_err-take_events-clause-done : goal.returns-in_err-take_events-clause-done
+returns-in_err-take_events-clause-done g c origin m told tells beside reached =
+    IfOk-from_err c.from_residual.result _ c.from_residual.ensures.0
+
+pub returns-in_err-take_events-clause-all : goal.returns-in_err-take_events-clause-all
+returns-in_err-take_events-clause-all g c tells = IfOk-from_err c.from_residual.result _ c.from_residual.ensures.0
+
+pub returns-in_err-take_events-clause-read : goal.returns-in_err-take_events-clause-read
+returns-in_err-take_events-clause-read g c tells = IfOk-from_err c.from_residual.result _ c.from_residual.ensures.0
+
+pub returns-in_err-take_events-clause-site_calm : goal.returns-in_err-take_events-clause-site_calm
+returns-in_err-take_events-clause-site_calm g c = IfOk-from_err c.from_residual.result _ c.from_residual.ensures.0
+
+pub returns-in_err-take_events-clause-source_calm : goal.returns-in_err-take_events-clause-source_calm
+returns-in_err-take_events-clause-source_calm g c = IfOk-from_err c.from_residual.result _ c.from_residual.ensures.0
+
+pub returns-in_err-take_events-clause-stopped : goal.returns-in_err-take_events-clause-stopped
+returns-in_err-take_events-clause-stopped g c origin m told tells beside reached =
+    if_err_from (IsStopped origin c.args.core.now.engine.defs.now (rules_in c.args.core.now.engine) c.args.events.now
+    m (g.T.Site.disk c.args.site.now) c.args.core.now.lines (g.T.Site.disk c.take_events.new.site))
+    c.from_residual.result c.in_err-take_events.field-0.0 c.from_residual.ensures.1
+    (c.in_err-take_events.ensures.stopped origin m told tells beside reached)
+
+pub returns-in_err-take_events-clause-site_cause : goal.returns-in_err-take_events-clause-site_cause
+returns-in_err-take_events-clause-site_cause g c =
+    if_err_from (IsCausedBySite (g.T.Site.faults c.args.site.now) (g.T.Site.faults c.take_events.new.site))
+    c.from_residual.result c.in_err-take_events.field-0.0 c.from_residual.ensures.1
+    c.in_err-take_events.ensures.site_cause
+
+pub returns-in_err-take_events-clause-source_cause : goal.returns-in_err-take_events-clause-source_cause
+returns-in_err-take_events-clause-source_cause g c =
+    if_err_from (IsCausedBySource (g.S.Source.faults c.args.source.now) (g.S.Source.faults c.take_events.new.source))
+    c.from_residual.result c.in_err-take_events.field-0.0 c.from_residual.ensures.1
+    c.in_err-take_events.ensures.source_cause
+
+pub returns-in_err-take_events-clause-line : goal.returns-in_err-take_events-clause-line
+returns-in_err-take_events-clause-line g c tells n is =
+    c.in_err-take_events.ensures.line tells n (err_of_stop c.from_residual.result c.in_err-take_events.field-0.0
+    (stops.LineFault n) c.from_residual.ensures.1 is)
+
+pub returns-in_err-take_events-clause-moments : goal.returns-in_err-take_events-clause-moments
+returns-in_err-take_events-clause-moments g c = c.take_events.ensures.moments
+
+pub returns-in_err-take_events-clause-rules : goal.returns-in_err-take_events-clause-rules
+returns-in_err-take_events-clause-rules g c = c.take_events.ensures.rules
+
+pub returns-in_err-take_events-clause-defs : goal.returns-in_err-take_events-clause-defs
+returns-in_err-take_events-clause-defs g c = c.take_events.ensures.defs
+
+pub returns-in_err-take_events-clause-scripts : goal.returns-in_err-take_events-clause-scripts
+returns-in_err-take_events-clause-scripts g c = c.take_events.ensures.scripts
+
+pub returns-in_err-take_events-clause-reads : goal.returns-in_err-take_events-clause-reads
+returns-in_err-take_events-clause-reads g c = c.take_events.ensures.reads
+
+pub returns-in_err-take_events-clause-spares : goal.returns-in_err-take_events-clause-spares
+returns-in_err-take_events-clause-spares g c = c.take_events.ensures.spares
+
+pub returns-in_err-take_events-clause-front : goal.returns-in_err-take_events-clause-front
+returns-in_err-take_events-clause-front g c = c.take_events.ensures.front
+
+pub returns-in_err-take_events-clause-site : goal.returns-in_err-take_events-clause-site
+returns-in_err-take_events-clause-site g c = c.take_events.ensures.site
+
+pub returns-in_err-take_events-clause-source : goal.returns-in_err-take_events-clause-source
+returns-in_err-take_events-clause-source g c = c.take_events.ensures.source
+
+pub returns-in_err-drain-clause-reached : goal.returns-in_err-drain-clause-reached
+returns-in_err-drain-clause-reached g c =
+    IfOk-from_err c.from_residual-in_err-drain.result _ c.from_residual-in_err-drain.ensures.0
+
+pub returns-in_err-drain-clause-done : goal.returns-in_err-drain-clause-done
+returns-in_err-drain-clause-done g c origin m told tells beside reached =
+    IfOk-from_err c.from_residual-in_err-drain.result _ c.from_residual-in_err-drain.ensures.0
+
+pub returns-in_err-drain-clause-all : goal.returns-in_err-drain-clause-all
+returns-in_err-drain-clause-all g c tells =
+    IfOk-from_err c.from_residual-in_err-drain.result _ c.from_residual-in_err-drain.ensures.0
+
+pub returns-in_err-drain-clause-read : goal.returns-in_err-drain-clause-read
+returns-in_err-drain-clause-read g c tells =
+    IfOk-from_err c.from_residual-in_err-drain.result _ c.from_residual-in_err-drain.ensures.0
+
+pub returns-in_err-drain-clause-site_calm : goal.returns-in_err-drain-clause-site_calm
+returns-in_err-drain-clause-site_calm g c =
+    IfOk-from_err c.from_residual-in_err-drain.result _ c.from_residual-in_err-drain.ensures.0
+
+pub returns-in_err-drain-clause-source_calm : goal.returns-in_err-drain-clause-source_calm
+returns-in_err-drain-clause-source_calm g c =
+    IfOk-from_err c.from_residual-in_err-drain.result _ c.from_residual-in_err-drain.ensures.0
+
+pub returns-in_err-drain-clause-site_cause : goal.returns-in_err-drain-clause-site_cause
+returns-in_err-drain-clause-site_cause g c =
+    if_err_from (IsCausedBySite (g.T.Site.faults c.args.site.now) (g.T.Site.faults c.drain.new.site))
+    c.from_residual-in_err-drain.result c.in_err-drain.field-0.0 c.from_residual-in_err-drain.ensures.1 (subst (λ (n :
+    ℕ). IsCausedBySite n (g.T.Site.faults c.drain.new.site) c.in_err-drain.field-0.0)
+    c.in_ok-take_events.ensures.site_calm c.in_err-drain.ensures.site_cause)
+
+pub returns-in_err-drain-clause-source_cause : goal.returns-in_err-drain-clause-source_cause
+returns-in_err-drain-clause-source_cause g c =
+    if_err_from (IsCausedBySource (g.S.Source.faults c.args.source.now) (g.S.Source.faults c.drain.new.source))
+    c.from_residual-in_err-drain.result c.in_err-drain.field-0.0 c.from_residual-in_err-drain.ensures.1 (subst (λ (n :
+    ℕ). IsCausedBySource n (g.S.Source.faults c.drain.new.source) c.in_err-drain.field-0.0)
+    c.in_ok-take_events.ensures.source_calm c.in_err-drain.ensures.source_cause)
+
+pub returns-in_err-drain-clause-line : goal.returns-in_err-drain-clause-line
+returns-in_err-drain-clause-line g c tells n is =
+    sym (ap (option_map number_of) (c.in_ok-take_events.ensures.fair tells)) ∙ c.in_err-drain.ensures.line
+    (c.take_events.ensures.source.continued.still_told tells) n (err_of_stop c.from_residual-in_err-drain.result
+    c.in_err-drain.field-0.0 (stops.LineFault n) c.from_residual-in_err-drain.ensures.1 is)
+
+pub returns-in_err-drain-clause-reads : goal.returns-in_err-drain-clause-reads
+returns-in_err-drain-clause-reads g c =
+    reads_nothing_both (g.T.Site.tells_reads c.args.site.now) (g.T.Site.tells_reads c.take_events.new.site)
+    (g.T.Site.tells_reads c.drain.new.site) (g.T.Site.bytes_read c.args.site.now) (g.T.Site.bytes_read
+    c.take_events.new.site) (g.T.Site.bytes_read c.drain.new.site) c.take_events.ensures.reads c.drain.ensures.reads
+
+pub returns-in_err-drain-clause-site : goal.returns-in_err-drain-clause-site
+returns-in_err-drain-clause-site g c =
+    continued_both g.T.Site.told g.T.Site.faults g.T.Site.holds g.T.Site.keeps c.args.site.now c.take_events.new.site
+    c.drain.new.site c.take_events.ensures.site c.drain.ensures.site
+
+pub returns-in_err-drain-clause-source : goal.returns-in_err-drain-clause-source
+returns-in_err-drain-clause-source g c =
+    reads_joined g.S.Source.told g.S.Source.left g.S.Source.faults g.S.Source.holds g.S.Source.keeps part.Messages
+    c.args.source.now c.take_events.new.source c.drain.new.source c.take_events.ensures.source c.drain.ensures.source
+
+pub returns-in_err-drain-clause-rules : goal.returns-in_err-drain-clause-rules
+returns-in_err-drain-clause-rules g c = c.drain.ensures.rules ∙ c.take_events.ensures.rules
+
+pub returns-in_err-drain-clause-defs : goal.returns-in_err-drain-clause-defs
+returns-in_err-drain-clause-defs g c = c.drain.ensures.defs ∙ c.take_events.ensures.defs
+
+pub returns-in_err-drain-clause-scripts : goal.returns-in_err-drain-clause-scripts
+returns-in_err-drain-clause-scripts g c = c.drain.ensures.scripts ∙ c.take_events.ensures.scripts

@@ -1,4 +1,5 @@
-use Rattle.std.proofs.Common.{◌∙◌, ap, arith, Option, List, ◌++◌, ◌∷◌, []}
+use Rattle.std.proofs.lemmas.Result.{IfOk-from_err}
+use Rattle.std.proofs.Common.{◌∙◌, ap, arith, Option, List, ◌++◌, ◌∷◌, [], refl}
 use Rattle.std.specs.Prelude.{option_map}
 use Rattle.fp_model.specs.declared.log.Entry.{Entry}
 use Rattle.fp_model.specs.Lasts.{Last}
@@ -50,3 +51,95 @@ returns-clause-refused c m s =
     ∙ ap (λ (lasts : List Last). with_used (option_map last_kept c.args.kept) lasts) c.reserve-2.ensures.terminals
     ∙ ap (λ (o : Option Last). with_used o c.args.self.now.lasts.terminals) c.requires.kept)
     (omega (arith, c.in_ok-reserve-2.ensures.ok, c.len-slots.ensures, c.keep.ensures.spare))
+
+-- ---- want of memory, and what stays
+
+pub returns-in_err-reserve-clause-refused : goal.returns-in_err-reserve-clause-refused
+returns-in_err-reserve-clause-refused c m s = IfOk-from_err c.from_residual.result _ c.from_residual.ensures.0
+
+pub returns-in_err-reserve-clause-rules : goal.returns-in_err-reserve-clause-rules
+returns-in_err-reserve-clause-rules c = refl
+
+pub returns-in_err-reserve-clause-defs : goal.returns-in_err-reserve-clause-defs
+returns-in_err-reserve-clause-defs c = refl
+
+pub returns-in_err-reserve-clause-scripts : goal.returns-in_err-reserve-clause-scripts
+returns-in_err-reserve-clause-scripts c = refl
+
+pub returns-in_err-reserve-clause-gate : goal.returns-in_err-reserve-clause-gate
+returns-in_err-reserve-clause-gate c = refl
+
+pub returns-in_err-reserve-clause-count : goal.returns-in_err-reserve-clause-count
+returns-in_err-reserve-clause-count c = refl
+
+pub returns-in_err-reserve-2-clause-refused : goal.returns-in_err-reserve-2-clause-refused
+returns-in_err-reserve-2-clause-refused c m s =
+    IfOk-from_err c.from_residual-in_err-reserve-2.result _ c.from_residual-in_err-reserve-2.ensures.0
+
+pub returns-in_err-reserve-2-clause-rules : goal.returns-in_err-reserve-2-clause-rules
+returns-in_err-reserve-2-clause-rules c = refl
+
+pub returns-in_err-reserve-2-clause-defs : goal.returns-in_err-reserve-2-clause-defs
+returns-in_err-reserve-2-clause-defs c = refl
+
+pub returns-in_err-reserve-2-clause-scripts : goal.returns-in_err-reserve-2-clause-scripts
+returns-in_err-reserve-2-clause-scripts c = refl
+
+pub returns-in_err-reserve-2-clause-gate : goal.returns-in_err-reserve-2-clause-gate
+returns-in_err-reserve-2-clause-gate c = refl
+
+pub returns-in_err-reserve-2-clause-count : goal.returns-in_err-reserve-2-clause-count
+returns-in_err-reserve-2-clause-count c = refl
+
+pub returns-in_err-mark-clause-refused : goal.returns-in_err-mark-clause-refused
+returns-in_err-mark-clause-refused c m s =
+    IfOk-from_err c.from_residual-in_err-mark.result _ c.from_residual-in_err-mark.ensures.0
+
+pub returns-in_err-mark-clause-rules : goal.returns-in_err-mark-clause-rules
+returns-in_err-mark-clause-rules c = refl
+
+pub returns-in_err-mark-clause-defs : goal.returns-in_err-mark-clause-defs
+returns-in_err-mark-clause-defs c = refl
+
+pub returns-in_err-mark-clause-scripts : goal.returns-in_err-mark-clause-scripts
+returns-in_err-mark-clause-scripts c = refl
+
+pub returns-in_err-mark-clause-gate : goal.returns-in_err-mark-clause-gate
+returns-in_err-mark-clause-gate c = refl
+
+pub returns-in_err-mark-clause-count : goal.returns-in_err-mark-clause-count
+returns-in_err-mark-clause-count c = refl
+
+pub returns-in_err-append_owed-clause-refused : goal.returns-in_err-append_owed-clause-refused
+returns-in_err-append_owed-clause-refused c m s =
+    IfOk-from_err c.from_residual-in_err-append_owed.result _ c.from_residual-in_err-append_owed.ensures.0
+
+pub returns-in_err-append_owed-clause-rules : goal.returns-in_err-append_owed-clause-rules
+returns-in_err-append_owed-clause-rules c = refl
+
+pub returns-in_err-append_owed-clause-defs : goal.returns-in_err-append_owed-clause-defs
+returns-in_err-append_owed-clause-defs c = refl
+
+pub returns-in_err-append_owed-clause-scripts : goal.returns-in_err-append_owed-clause-scripts
+returns-in_err-append_owed-clause-scripts c = refl
+
+pub returns-in_err-append_owed-clause-gate : goal.returns-in_err-append_owed-clause-gate
+returns-in_err-append_owed-clause-gate c = c.append_owed.ensures.gate
+
+pub returns-in_err-append_owed-clause-count : goal.returns-in_err-append_owed-clause-count
+returns-in_err-append_owed-clause-count c = refl
+
+pub returns-clause-rules : goal.returns-clause-rules
+returns-clause-rules c = refl
+
+pub returns-clause-defs : goal.returns-clause-defs
+returns-clause-defs c = refl
+
+pub returns-clause-scripts : goal.returns-clause-scripts
+returns-clause-scripts c = refl
+
+pub returns-clause-gate : goal.returns-clause-gate
+returns-clause-gate c = c.append_owed.ensures.gate
+
+pub returns-clause-count : goal.returns-clause-count
+returns-clause-count c = refl

@@ -1,4 +1,11 @@
-use Rattle.std.proofs.Common.{◌≡◌, refl, ◌∙◌, arith, ◌-◌, ◌≤◌, length}
+use Rattle.fp_core.proofs.Exits.{seals_stop}
+use Rattle.gated_write.proofs.Calls.{reads_nothing_both}
+use Rattle.fp_core.proofs.Rounds.{if_err_from}
+use Rattle.fp_core.specs.Standing.{IsCausedBySite}
+use Rattle.fp_core.specs.inside.Sealing.{IsOfLog}
+use Rattle.std.proofs.lemmas.Result.{IfOk-from_err}
+use Rattle.fp_model.specs.declared.events.Event.TheVariants as event
+use Rattle.std.proofs.Common.{◌≡◌, refl, ◌∙◌, arith, ◌-◌, ◌≤◌, length, subst, ℕ}
 use Rattle.fp_lists.proofs.ContinuedLemmas.{continued_both, continued_none}
 use Rattle.std.proofs.lemmas.Grind.{common_steps}
 use Rattle.fp_model.specs.History.{place_of}
@@ -126,3 +133,90 @@ returns-in_err-seal-clause-front g c told =
     fronts_on (g.T.Site.disk c.args.site.now) (g.T.Site.disk c.loop-self.site) (g.T.Site.disk c.seal.new.site)
     c.args.self.now.log.gate c.loop-self.self.log.gate (before.front told) (before.front_on told)
     (c.seal.ensures.front (before.site.still_told told))
+
+-- ---- faults, stops, and what stays
+
+pub returns-in_err-seal-clause-sealed : goal.returns-in_err-seal-clause-sealed
+returns-in_err-seal-clause-sealed g c m s = IfOk-from_err c.from_residual.result _ c.from_residual.ensures.0
+
+pub returns-in_err-seal-clause-at : goal.returns-in_err-seal-clause-at
+returns-in_err-seal-clause-at g c origin m told at = IfOk-from_err c.from_residual.result _ c.from_residual.ensures.0
+
+pub returns-in_err-seal-clause-stops : goal.returns-in_err-seal-clause-stops
+returns-in_err-seal-clause-stops g c =
+    if_err_from IsOfLog c.from_residual.result c.in_err-seal.field-0.0 c.from_residual.ensures.1 (seals_stop event.Log
+    c.loop-self.self.held tt c.in_err-seal.field-0.0 c.in_err-seal.ensures.stops)
+
+pub returns-in_err-seal-clause-cause : goal.returns-in_err-seal-clause-cause
+returns-in_err-seal-clause-cause g c =
+    if_err_from (IsCausedBySite (g.T.Site.faults c.args.site.now) (g.T.Site.faults c.seal.new.site))
+    c.from_residual.result c.in_err-seal.field-0.0 c.from_residual.ensures.1 (subst (λ (n : ℕ). IsCausedBySite n
+    (g.T.Site.faults c.seal.new.site) c.in_err-seal.field-0.0) c.loop-self.invariant.calm c.in_err-seal.ensures.cause)
+
+pub returns-in_err-seal-clause-calm : goal.returns-in_err-seal-clause-calm
+returns-in_err-seal-clause-calm g c = IfOk-from_err c.from_residual.result _ c.from_residual.ensures.0
+
+pub returns-in_err-seal-clause-front_on : goal.returns-in_err-seal-clause-front_on
+returns-in_err-seal-clause-front_on g c told = IfOk-from_err c.from_residual.result _ c.from_residual.ensures.0
+
+pub returns-in_err-seal-clause-reads : goal.returns-in_err-seal-clause-reads
+returns-in_err-seal-clause-reads g c =
+    reads_nothing_both (g.T.Site.tells_reads c.args.site.now) (g.T.Site.tells_reads c.loop-self.site)
+    (g.T.Site.tells_reads c.seal.new.site) (g.T.Site.bytes_read c.args.site.now) (g.T.Site.bytes_read
+    c.loop-self.site) (g.T.Site.bytes_read c.seal.new.site) c.loop-self.invariant.reads c.seal.ensures.reads
+
+pub returns-in_err-seal-clause-site : goal.returns-in_err-seal-clause-site
+returns-in_err-seal-clause-site g c =
+    continued_both g.T.Site.told g.T.Site.faults g.T.Site.holds g.T.Site.keeps c.args.site.now c.loop-self.site
+    c.seal.new.site c.loop-self.invariant.site c.seal.ensures.site
+
+pub returns-in_err-seal-clause-rules : goal.returns-in_err-seal-clause-rules
+returns-in_err-seal-clause-rules g c = c.seal.ensures.rules ∙ c.loop-self.invariant.rules
+
+pub returns-in_err-seal-clause-defs : goal.returns-in_err-seal-clause-defs
+returns-in_err-seal-clause-defs g c = c.seal.ensures.defs ∙ c.loop-self.invariant.defs
+
+pub returns-in_err-seal-clause-scripts : goal.returns-in_err-seal-clause-scripts
+returns-in_err-seal-clause-scripts g c = c.seal.ensures.scripts ∙ c.loop-self.invariant.scripts
+
+pub returns-in_err-seal-clause-count : goal.returns-in_err-seal-clause-count
+returns-in_err-seal-clause-count g c = c.seal.ensures.count ∙ c.loop-self.invariant.count
+
+pub returns-clause-stops : goal.returns-clause-stops
+returns-clause-stops g c = tt
+
+pub returns-clause-cause : goal.returns-clause-cause
+returns-clause-cause g c = tt
+
+pub returns-clause-leaves : goal.returns-clause-leaves
+returns-clause-leaves g c = c.loop-self.invariant.leaves
+
+pub returns-clause-calm : goal.returns-clause-calm
+returns-clause-calm g c = c.loop-self.invariant.calm
+
+pub returns-clause-rules : goal.returns-clause-rules
+returns-clause-rules g c = c.loop-self.invariant.rules
+
+pub returns-clause-defs : goal.returns-clause-defs
+returns-clause-defs g c = c.loop-self.invariant.defs
+
+pub returns-clause-scripts : goal.returns-clause-scripts
+returns-clause-scripts g c = c.loop-self.invariant.scripts
+
+pub returns-clause-count : goal.returns-clause-count
+returns-clause-count g c = c.loop-self.invariant.count
+
+pub returns-clause-reads : goal.returns-clause-reads
+returns-clause-reads g c = c.loop-self.invariant.reads
+
+pub returns-clause-spares : goal.returns-clause-spares
+returns-clause-spares g c = c.loop-self.invariant.spares
+
+pub returns-clause-front : goal.returns-clause-front
+returns-clause-front g c = c.loop-self.invariant.front
+
+pub returns-clause-front_on : goal.returns-clause-front_on
+returns-clause-front_on g c = c.loop-self.invariant.front_on
+
+pub returns-clause-site : goal.returns-clause-site
+returns-clause-site g c = c.loop-self.invariant.site

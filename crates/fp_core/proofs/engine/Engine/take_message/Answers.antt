@@ -1,4 +1,6 @@
-use Rattle.std.proofs.Common.{◌≡◌, ◌∙◌, sym, arith, ℕ, suc, ◌-◌, None}
+use Rattle.std.proofs.lemmas.List.{length-set}
+use Rattle.std.proofs.lemmas.Result.{IfOk-from_err}
+use Rattle.std.proofs.Common.{◌≡◌, ◌∙◌, sym, arith, ℕ, suc, ◌-◌, None, refl}
 use Rattle.fp_core.proofs.Steps.{regions_long}
 use Rattle.fp_core.proofs.Takes.{first_takeable, group_some, group_within, nothing, roomier, takes}
 use Rattle.fp_core.proofs.engine.Engine.take_message.Goals as goal
@@ -86,3 +88,81 @@ make_room-requires c =
       regions_long c.args.self.now c.requires.stands.0 c.requires.stands.1,
       c.requires.stands.1.setup.defined.regions.1,
     )
+
+-- ---- want of memory, and what stays
+
+pub returns-in-None-clause-rules : goal.returns-in-None-clause-rules
+returns-in-None-clause-rules c = refl
+
+pub returns-in-None-clause-defs : goal.returns-in-None-clause-defs
+returns-in-None-clause-defs c = refl
+
+pub returns-in-None-clause-scripts : goal.returns-in-None-clause-scripts
+returns-in-None-clause-scripts c = refl
+
+pub returns-in-None-clause-gate : goal.returns-in-None-clause-gate
+returns-in-None-clause-gate c = refl
+
+pub returns-in-None-clause-count : goal.returns-in-None-clause-count
+returns-in-None-clause-count c = refl
+
+pub returns-in-None-clause-err : goal.returns-in-None-clause-err
+returns-in-None-clause-err c m s = tt
+
+pub returns-in_err-begun-in-Some-clause-turned : goal.returns-in_err-begun-in-Some-clause-turned
+returns-in_err-begun-in-Some-clause-turned c m s = IfOk-from_err c.from_residual.result _ c.from_residual.ensures.0
+
+pub returns-in_err-begun-in-Some-clause-err : goal.returns-in_err-begun-in-Some-clause-err
+returns-in_err-begun-in-Some-clause-err c m s = on_err c.from_residual.result (s)
+
+pub returns-in_err-begun-in-Some-clause-rules : goal.returns-in_err-begun-in-Some-clause-rules
+returns-in_err-begun-in-Some-clause-rules c = refl
+
+pub returns-in_err-begun-in-Some-clause-defs : goal.returns-in_err-begun-in-Some-clause-defs
+returns-in_err-begun-in-Some-clause-defs c = refl
+
+pub returns-in_err-begun-in-Some-clause-scripts : goal.returns-in_err-begun-in-Some-clause-scripts
+returns-in_err-begun-in-Some-clause-scripts c = refl
+
+pub returns-in_err-begun-in-Some-clause-gate : goal.returns-in_err-begun-in-Some-clause-gate
+returns-in_err-begun-in-Some-clause-gate c = refl
+
+pub returns-in_err-begun-in-Some-clause-count : goal.returns-in_err-begun-in-Some-clause-count
+returns-in_err-begun-in-Some-clause-count c = refl
+
+pub returns-in_err-make_room-clause-turned : goal.returns-in_err-make_room-clause-turned
+returns-in_err-make_room-clause-turned c m s =
+    IfOk-from_err c.from_residual-in_err-make_room.result _ c.from_residual-in_err-make_room.ensures.0
+
+pub returns-in_err-make_room-clause-rules : goal.returns-in_err-make_room-clause-rules
+returns-in_err-make_room-clause-rules c = refl
+
+pub returns-in_err-make_room-clause-defs : goal.returns-in_err-make_room-clause-defs
+returns-in_err-make_room-clause-defs c = refl
+
+pub returns-in_err-make_room-clause-scripts : goal.returns-in_err-make_room-clause-scripts
+returns-in_err-make_room-clause-scripts c = refl
+
+pub returns-in_err-make_room-clause-gate : goal.returns-in_err-make_room-clause-gate
+returns-in_err-make_room-clause-gate c = c.make_room.ensures.gate
+
+pub returns-in_err-make_room-clause-count : goal.returns-in_err-make_room-clause-count
+returns-in_err-make_room-clause-count c = refl
+
+pub returns-clause-err : goal.returns-clause-err
+returns-clause-err c m s = tt
+
+pub returns-clause-rules : goal.returns-clause-rules
+returns-clause-rules c = refl
+
+pub returns-clause-defs : goal.returns-clause-defs
+returns-clause-defs c = refl
+
+pub returns-clause-scripts : goal.returns-clause-scripts
+returns-clause-scripts c = refl
+
+pub returns-clause-gate : goal.returns-clause-gate
+returns-clause-gate c = c.make_room.ensures.gate
+
+pub returns-clause-count : goal.returns-clause-count
+returns-clause-count c = length-set c.args.self.now.regions _ _
