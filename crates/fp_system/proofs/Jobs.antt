@@ -1,5 +1,5 @@
 -- Parts have one meaning: one job, or one answer.
-use Rattle.std.proofs.Common.{◌≡◌, ⊎_elim, eqb-true, inl, inr, refl, sym, ap, subst, ◌∙◌, arith, ℕ, ◌<◌, List, [], ◌∷◌, length, Bool, true, false, if◌then◌else◌, Option, Some, None}
+use Rattle.std.proofs.Common.{◌≡◌, eqb-true, inl, inr, refl, sym, ap, subst, ◌∙◌, arith, ℕ, ◌<◌, List, [], ◌∷◌, length, Bool, true, false, if◌then◌else◌, Option, Some, None}
 use Rattle.std.specs.Prelude.{◌==◌, ◌≢◌, ◌⊎◌, filter_map, map, nat_lt, Result, Ok, Err}
 use Rattle.std.specs.Option.{option_map_or}
 use Rattle.fp_defs.specs.Exits.{first_lacking, lacking, with_exits, defs_for}
@@ -24,7 +24,6 @@ use Rattle.fp_source.specs.declared.part.Part.{Part}
 use Rattle.fp_source.specs.declared.part.Part.TheVariants as part
 use Rattle.fp_system.specs.Answers.{MayStandIn}
 use Rattle.fp_system.specs.inside.Answers.{status_of_definitions, status_of_schedule}
-use Rattle.fp_system.specs.Gives.{InOrder}
 use Rattle.fp_system.specs.Parts.{Job, HasEvents, HasSchedule, IsJob, Refuses, by_definitions, by_schedule, by_scripts, are_built, only_built, definitions_in}
 use Rattle.fp_system.specs.declared.status.Status.{Status}
 use Rattle.fp_system.specs.declared.status.Status.TheVariants as status
@@ -37,7 +36,7 @@ use Rattle.txn_lang.specs.declared.fault.ScriptFault.{ScriptFault}
 same_defs : (r : Result Defs Status) (a b : Defs) → r ≡ Ok a → r ≡ Ok b → a ≡ b
 same_defs r a b e f = cc
 
-not_both : {Any : Type 0} (r : Result Defs Status) (a : Defs) (answer : Status) → r ≡ Ok a → r ≡ Err answer → Any
+pub not_both : {Any : Type 0} (r : Result Defs Status) (a : Defs) (answer : Status) → r ≡ Ok a → r ≡ Err answer → Any
 not_both r a answer e f = absurd cc
 
 same_answer : (r : Result Defs Status) (a b : Status) → r ≡ Err a → r ≡ Err b → a ≡ b
@@ -297,18 +296,6 @@ same_events job left a b p q = one_good (events_of job.defs (left part.Schedule)
     one_good : (r : Result (List Event) ScheduleFault) → r ≡ Ok a → r ≡ Ok b → a ≡ b
     one_good r e f = cc
 
--- ---- the order in which parts are read
-
+-- a command was named
 pub no_word : {A : Type 0} {found : Option Command} {command : Command} → found ≡ Some command → found ≡ None → A
 no_word e f = cc
-
--- of a job no part is refused
-pub in_order : (kinds : Kinds) (found : Option Command) (old new : Part → List ℕ) (command : Command) (job : Job)
-    → found ≡ Some command → IsJob kinds old job
-    → (new part.Messages ≡ old part.Messages) ⊎ HasSchedule Run job old → InOrder kinds found old new
-in_order kinds found old new command job named is lines = record {
-  words = λ none p. no_word named none;
-  scripts = λ answer bad. not_both (definitions_in kinds (old part.Definitions)) job.defs answer is.definitions bad;
-  schedule = λ none. absurd (none (job, is));
-  messages = λ none. ⊎_elim (λ same. same) (λ has. absurd (none (job, is, has))) lines;
-}

@@ -13,3 +13,5 @@ mod Audits
 pub mod OldLogs
 mod Migrations
 mod Restarted
+mod Making
+mod Calls

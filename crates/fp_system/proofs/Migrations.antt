@@ -1,15 +1,17 @@
 -- What a migration gives: of a safe site in format 1, of a log that can be read, and of the moments a crash may take.
-use Rattle.std.proofs.Common.{◌≡◌, ◌⊎◌, ⊎_elim, inl, inr, refl, sym, ◌∙◌, ap, subst, arith, ℕ, ◌<◌, List, [], ◌∷◌, ◌++◌, length, take}
+use Rattle.std.proofs.Common.{◌≡◌, ◌⊎◌, inl, inr, refl, sym, ◌∙◌, ap, subst, arith, ℕ, ◌<◌, List, [], ◌∷◌, ◌++◌, length, take}
+use Rattle.std.specs.Prelude.{Err, Ok, OnOk, Result}
 use Rattle.std.proofs.lemmas.List.{append-nil}
 use Rattle.std.proofs.lemmas.List.Concat.{flat_map-cons}
-use Rattle.fp_core.specs.Sparing.{IsLogSet as IsLog, Spares}
+use Rattle.fp_core.specs.Fronts.{KeepsFronts}
+use Rattle.fp_core.specs.Sparing.{IsLogSet as IsLog}
 use Rattle.fp_core.proofs.SparingLemmas.{spares_on, spares_only, spares_syncs}
 use Rattle.fp_model.specs.declared.database.Db.{Db}
 use Rattle.fp_model.specs.declared.definitions.Defs.{Defs}
 use Rattle.fp_model.specs.declared.log.Entry.{Entry}
 use Rattle.fp_model.specs.declared.scripts.Script.{Script}
 use Rattle.fp_model.specs.Groups.{entries_of}
-use Rattle.fp_model.specs.History.{History, beginning, place_of, with_entry}
+use Rattle.fp_model.specs.History.{History, beginning, with_entry}
 use Rattle.fp_model.specs.Items.{AreFit, items_of, with_items}
 use Rattle.fp_model.specs.Lasts.{format_at}
 use Rattle.fp_model.specs.LogText.{FitsEntry, Front, KeepsRules, first_gate}
@@ -20,14 +22,13 @@ use Rattle.fp_model.specs.State.{start}
 use Rattle.fp_model.proofs.HistoryLemmas.{entries_put, format_stays}
 use Rattle.fp_restart.proofs.Groups.{same_reading}
 use Rattle.fp_restart.proofs.Replays.{read_at_rest}
-use Rattle.fp_restart.specs.Replayed.{ReadsBack}
 use Rattle.fp_restart.specs.Restarts.{StandsFor}
-use Rattle.fp_site.specs.Disk.{Differs, Disk, IsDurable, IsLawful, Settles, Snapshot, Syncs}
+use Rattle.fp_site.specs.Disk.{Differs, Disk, IsLawful, Settles, Snapshot, Syncs}
 use Rattle.fp_site.specs.Moments.{OnlyOn, Through}
 use Rattle.fp_site.proofs.Images.{durable_settles}
 use Rattle.fp_site.proofs.Runs.{both, joined, of_call, started, weaker}
 use Rattle.balancing.specs.Numbered.{Numbered}
-use Rattle.log_groups.specs.Images.{IsAtRest, IsBeforeOrAfter, IsLog as HasLog, IsWithOrWithout, gate_behind}
+use Rattle.log_groups.specs.Images.{IsAtRest, IsBeforeOrAfter, IsLog as HasLog, IsWithOrWithout, gate_behind, with_group}
 use Rattle.log_groups.specs.Kept.{IsSound}
 use Rattle.log_groups.specs.Log.{LogState}
 use Rattle.log_groups.proofs.Fronts.{one_format}
@@ -35,10 +36,16 @@ use Rattle.msdb_store.specs.Store.{Stored}
 use Rattle.fp_system.specs.Courses.{IsSoundFor}
 use Rattle.fp_system.specs.Gives.{HasMore, IsMigrating, IsMigratedOr, IsSafeFor, KeepsFront, Migrated, Moved, format_entry}
 use Rattle.fp_system.specs.Ims.{IsUnchanged}
-use Rattle.fp_system.specs.Parts.{Job, front_for, front_in, rules_for}
-use Rattle.fp_system.specs.Table.{IsOld, IsSpared}
+use Rattle.fp_system.specs.Parts.{Job, front_for, front_in}
+use Rattle.fp_system.specs.Table.{IsOld}
 use Rattle.fp_system.specs.declared.status.Status.{Status}
-use Rattle.fp_system.specs.declared.status.Status.TheVariants.{Done}
+use Rattle.fp_system.specs.declared.status.Status.TheVariants.{Done, NoMemory, SiteFault}
+use Rattle.fp_system.specs.inside.Acted.{IsRestarted, Seals}
+use Rattle.fp_system.specs.inside.Answers.{status_of_seal}
+use Rattle.fp_system.proofs.Due.{not_spared}
+use Rattle.fp_system.proofs.OldLogs.{sound_old_only}
+use Rattle.fp_system.proofs.Restarted.{old_told}
+use Rattle.fp_system.proofs.Runs.{kept_front}
 use Rattle.fp_system.proofs.Went.{unchanged_same}
 use Rattle.model_laws.proofs.Entries.{entries_push, items-append}
 
@@ -129,21 +136,51 @@ format_fits place = record {
 
 -- ---- what sealing it leaves
 
--- a log at rest that stays
-pub rests_before : (front : Front) (groups : List (List Entry)) (gate : ℕ) (more : List Entry) (disk : Disk)
-    → IsLawful disk → IsAtRest disk front groups gate
-    → Through disk disk (IsBeforeOrAfter front groups gate more)
-rests_before front groups gate more disk law rest =
-    started (IsBeforeOrAfter front groups gate more) disk law
-    (λ s left. inl (subst (λ (l : List ℕ). HasLog front l groups gate) (sym (rest.durable s left)) rest.log))
+module _ (front : Front) (groups : List (List Entry)) (gate : ℕ) (entry : Entry) where
+  -- what the call that seals it says
+  pub sealed : {A E : Type 0} (old new : Disk) (mid next : ℕ) (waiting : List Entry) (r : Result A E) (answer : Status)
+      → mid ≡ gate → waiting ≡ entry ∷ [] → answer ≡ status_of_seal r
+      → Through old new (IsBeforeOrAfter front groups mid (take 1 waiting))
+      → ((image : List ℕ) → Settles new 0 image → IsWithOrWithout front groups mid (take 1 waiting) image)
+      → OnOk r (IsAtRest new front (with_group groups (take 1 waiting)) next)
+      → Seals front groups gate entry answer old new
+  sealed old new mid next waiting r answer same one is crash settles durable = record {
+    crash =
+        subst (λ (n : ℕ). Through old new (IsBeforeOrAfter front groups n (entry ∷ []))) same
+        (subst (λ (es : List Entry). Through old new (IsBeforeOrAfter front groups mid (take 1 es))) one crash);
+    settles = λ image settled.
+        subst (λ (n : ℕ). IsWithOrWithout front groups n (entry ∷ []) image) same
+        (subst (λ (es : List Entry). IsWithOrWithout front groups mid (take 1 es) image) one
+        (settles image settled));
+    gate_then = next;
+    durable = λ done.
+        subst (λ (es : List Entry). IsAtRest new front (with_group groups (take 1 es)) next) one
+        (there r (sym is ∙ done) durable);
+  }
+    where
+      there : {A E P : Type 0} (r : Result A E) → status_of_seal r ≡ Done → OnOk r P → P
+      there (Ok x) e it = it
+      there (Err why) e it = absurd cc
 
--- What the call that seals it says, of a log at rest.
-pub record Seals (front : Front) (groups : List (List Entry)) (gate : ℕ) (entry : Entry) (answer : Status)
-    (old new : Disk) : Type 0 where
-  pub crash : Through old new (IsBeforeOrAfter front groups gate (entry ∷ []))
-  pub settles : (image : List ℕ) → Settles new 0 image → IsWithOrWithout front groups gate (entry ∷ []) image
-  pub gate_then : ℕ
-  pub durable : answer ≡ Done → IsAtRest new front (groups ++ (entry ∷ []) ∷ []) gate_then
+  -- and where memory lacked for it
+  pub unsealed : (disk : Disk) → IsLawful disk → IsAtRest disk front groups gate
+      → Seals front groups gate entry NoMemory disk disk
+  unsealed disk law rest = record {
+    crash =
+        started (IsBeforeOrAfter front groups gate (entry ∷ [])) disk law
+        (λ s left. inl (subst (λ (l : List ℕ). HasLog front l groups gate) (sym (rest.durable s left)) rest.log));
+    settles = λ image settles.
+        inl (subst (λ (l : List ℕ). HasLog front l groups gate)
+        (sym (durable_settles disk 0 image rest.durable settles)) rest.log);
+    gate_then = gate;
+    durable = λ done. absurd cc;
+  }
+
+-- what may be answered
+pub seal_outcome : {A E : Type 0} (r : Result A E) (answer : Status) → answer ≡ status_of_seal r
+    → (answer ≡ Done) ⊎ ((answer ≡ SiteFault) ⊎ (answer ≡ NoMemory))
+seal_outcome (Ok x) answer is = inl is
+seal_outcome (Err why) answer is = inr (inl is)
 
 -- the bytes that were sent are those from before at each moment
 unsent : (old new : Disk) → IsLawful old → OnlyOn 0 old new → Through old new (λ s. old.tells_sent → s.sent ≡ old.sent)
@@ -212,43 +249,59 @@ moved_not job format earlier answer h h1 undone sent settles run = record {
   moments = weaker (Syncs h 0) (λ s. Syncs h 0 s ⊎ IsMigrating job format earlier h s) h h1 (λ s d. inl d) run;
 }
 
--- ---- a log that can be read
+-- ---- the whole
 
-module _ (job : Job) (h h1 h2 : Disk) (contents : (set : ℕ) → h1.contents set ≡ h.contents set)
-    (run : Through h h1 (Syncs h 0)) (store : Stored) (state : LogState) (lasts : Numbered) (first_format : ℕ)
-    (back : ReadsBack job.defs (front_in first_format job) h1 store state lasts) where
+module _ (job : Job) (h h1 h2 : Disk) (law1 : IsLawful h1) (before : IsUnchanged h h1) (store : Stored)
+    (state : LogState) (lasts : Numbered) (it : IsRestarted job h h1 store state lasts) (one : state.format ≡ 1)
+    (answer : Status) (only : OnlyOn 0 h1 h2) (fronts : KeepsFronts h1 state.gate h2)
+    (seals : (front : Front) (groups : List (List Entry)) → IsAtRest h1 front groups state.gate
+    → Seals front groups state.gate (format_entry state.sealed) answer h1 h2) where
   -- a log whose gate is there has the entry of a migration behind its groups, where that was sealed
-  pub more_at_rest : (answer : Status) (gate_then : ℕ)
-      → (answer ≡ Done → (groups : List (List Entry)) → IsAtRest h1 (front_in first_format job) groups state.gate
-      → IsAtRest h2 (front_in first_format job) (groups ++ (format_entry state.sealed ∷ []) ∷ []) gate_then)
-      → (format : ℕ) (groups : List (List Entry)) (gate : ℕ) → HasLog (front_in format job) (h.contents 0) groups gate
-      → answer ≡ Done → HasMore job format groups h2
-  more_at_rest answer gate_then sealed format groups gate log done =
-      let front = front_in first_format job in
+  more_at_rest : (format : ℕ) (groups : List (List Entry)) (gate : ℕ)
+      → HasLog (front_in format job) (h.contents 0) groups gate → answer ≡ Done → HasMore job format groups h2
+  more_at_rest format groups gate log done =
+      let first = state.front_format in
+      let front = front_in first job in
       let there : HasLog (front_in format job) (h1.contents 0) groups gate =
-      subst (λ (l : List ℕ). HasLog (front_in format job) l groups gate) (sym (contents 0)) log in
-      let one : format ≡ first_format =
-      one_format format first_format (front_for job) (h1.contents 0) there.holds.begins back.begins in
+      subst (λ (l : List ℕ). HasLog (front_in format job) l groups gate) (sym (before.contents 0)) log in
+      let same_format : format ≡ first =
+      one_format format first (front_for job) (h1.contents 0) there.holds.begins it.back.begins in
       let here : HasLog front (h1.contents 0) groups gate =
-      subst (λ (f : ℕ). HasLog (front_in f job) (h1.contents 0) groups gate) one there in
-      let its = back.replayed.groups in
+      subst (λ (f : ℕ). HasLog (front_in f job) (h1.contents 0) groups gate) same_format there in
+      let its = it.back.replayed.groups in
       let same = same_reading (h1.contents 0) (first_gate front) its groups state.gate gate
-      (back.replayed.holds.holds, back.closed) here.holds.reads in
+      (it.back.replayed.holds.holds, it.back.closed) here.holds.reads in
       let stands : state.gate < length (h1.contents 0) =
       subst (λ (g : ℕ). g < length (h1.contents 0)) (sym same.1) here.stands in
       let counted : state.sealed ≡ length (entries_of groups) =
-      back.replayed.count ∙ ap (λ (gs : List (List Entry)). length (entries_of gs)) same.0 in
-      let after : IsAtRest h2 front (its ++ (format_entry state.sealed ∷ []) ∷ []) gate_then =
-      sealed done its (read_at_rest job.defs front h1 store state lasts back stands) in
+      it.back.replayed.count ∙ ap (λ (gs : List (List Entry)). length (entries_of gs)) same.0 in
+      let sealed = seals front its (read_at_rest job.defs front h1 store state lasts it.back stands) in
       record {
-        gate = gate_then;
+        gate = sealed.gate_then;
         at_rest =
             subst (λ (f : ℕ). IsAtRest h2 (front_in f job)
-            (groups ++ (format_entry (length (entries_of groups)) ∷ []) ∷ []) gate_then) (sym one)
-            (subst (λ (n : ℕ). IsAtRest h2 front (groups ++ (format_entry n ∷ []) ∷ []) gate_then) counted
+            (groups ++ (format_entry (length (entries_of groups)) ∷ []) ∷ []) sealed.gate_then) (sym same_format)
+            (subst (λ (n : ℕ). IsAtRest h2 front (groups ++ (format_entry n ∷ []) ∷ []) sealed.gate_then) counted
             (subst (λ (gs : List (List Entry)). IsAtRest h2 front (gs ++ (format_entry state.sealed ∷ []) ∷ [])
-            gate_then) same.0 after));
+            sealed.gate_then) same.0 (sealed.durable done)));
       }
+
+  -- a log of format 1, behind a restart and a seal
+  pub migrated_on : Migrated job answer h h2
+  migrated_on = record {
+    spares = λ why. absurd (not_spared job (h.contents 0) it.good why);
+    stays = λ new. absurd (new (old_told job h h1 before.contents store state lasts it one));
+    others =
+        spares_on IsLog h h1 h2 law1 (spares_syncs h h1 before.contents before.crash) (spares_only h1 h2 law1 only);
+    keeps = kept_front job h h1 h2 before.contents before.crash store state lasts state.front_format it.back fronts;
+    unsent = only.now.sent ∙ before.sent;
+    whole = λ format groups gate log was done. more_at_rest format groups gate log done;
+    goes = λ format earlier safe was.
+        let found = it.sound format earlier safe.now in
+        moved job format earlier h h1 h2 law1 safe (sound_old_only job format (h.contents 0) earlier safe.now was)
+        before.sent before.crash store state lasts found answer
+        (seals (front_in format job) found.groups found.at_rest) only;
+  }
 
 -- ---- where nothing is done
 

@@ -6,7 +6,6 @@ use Rattle.fp_model.specs.Recovery.{Holds}
 use Rattle.fp_model.specs.LogText.{first_gate}
 use Rattle.fp_restart.proofs.Groups.{same_reading}
 use Rattle.fp_restart.proofs.Replays.{read_kept}
-use Rattle.fp_restart.proofs.Results.{same_synced}
 use Rattle.fp_restart.specs.Replayed.{ReadsBack}
 use Rattle.fp_site.specs.Disk.{Disk, IsLawful, Syncs}
 use Rattle.fp_site.specs.Moments.{OnlyOn, Through}
@@ -19,39 +18,23 @@ use Rattle.log_groups.proofs.Fronts.{one_format}
 use Rattle.log_groups.specs.Log.{LogState}
 use Rattle.msdb_store.specs.Store.{Stored}
 use Rattle.fp_system.specs.Answers.{IsEarly, MayStandIn}
-use Rattle.fp_system.specs.Courses.{Input}
+use Rattle.fp_system.specs.Courses.{Input, IsSoundFor}
+use Rattle.fp_system.specs.inside.Acted.{IsRestarted}
 use Rattle.fp_core.specs.Sparing.{IsLogSet as IsLog, Spares}
 use Rattle.fp_system.specs.Gives.{IsBeforeSite, IsSafeFor, KeepsFront, Ran, Went}
 use Rattle.fp_system.specs.Ims.{IsUnchanged}
 use Rattle.fp_system.specs.Parts.{Job, front_for, front_in}
-use Rattle.fp_system.specs.Table.{IsOld, IsSpared}
+use Rattle.fp_system.specs.Table.{IsOld}
 use Rattle.fp_system.specs.declared.status.Status.{Status}
 use Rattle.fp_system.specs.declared.status.Status.TheVariants.{Done, Usage, Definitions, Scripts, Schedule, ReadFault}
 use Rattle.fp_system.specs.declared.status.Status.TheVariants.{SiteFault, Foreign, Damaged, Line, NoMemory, NotBuilt, OldFormat, Illegal}
 use Rattle.command_words.specs.declared.words.Command.{Command}
 use Rattle.command_words.specs.declared.words.Command.TheVariants.{Define, Run}
-use Rattle.std.specs.Prelude.{Option, Some, None}
-use Rattle.fp_core.proofs.SparingLemmas.{spares_none}
+use Rattle.std.specs.Prelude.{Option, Some}
+use Rattle.fp_core.proofs.SparingLemmas.{spares_on, spares_syncs}
+use Rattle.fp_system.proofs.Due.{not_spared}
+use Rattle.fp_system.proofs.Restarted.{new_told}
 use Rattle.fp_system.proofs.Went.{unchanged_same, went_not}
-
--- ---- the whole
-
-module _ (job : Job) (given : Input) (answer : Status) where
-  pub ran : (old new : Disk) → (IsSpared job (old.contents 0) → IsUnchanged old new)
-      → (IsOld job (old.contents 0) → IsUnchanged old new × ¬ (answer ≡ Done))
-      → Spares IsLog old new
-      → ((format : ℕ) (groups : List (List Entry)) (gate : ℕ) → Holds (front_in format job) (old.contents 0) groups gate
-      → Through old new (KeepsFront gate old))
-      → ((format : ℕ) (earlier : List Entry) → IsSafeFor job format old earlier → ¬ (IsOld job (old.contents 0))
-      → Went job format given earlier answer old new)
-      → Ran job given answer old new
-  ran old new spared first others kept on =
-      record { spares = spared; first = first; others = others; keeps = kept; goes = on }
-
-  -- a restart alone keeps each log
-  pub kept_synced : (old new : Disk) → Through old new (Syncs old 0) → (gate : ℕ)
-      → Through old new (KeepsFront gate old)
-  kept_synced old new run gate = weaker (Syncs old 0) (KeepsFront gate old) old new (λ s d. inl d) run
 
 -- ---- before the site
 
@@ -69,29 +52,31 @@ only_same h = record {
 pub unmade : (front : Front) (h : Disk) → IsLawful h → Through h h (IsBeforeOrMade h front)
 unmade front h law = started (IsBeforeOrMade h front) h law (λ s left. inl (inl (settles_left h 0 s left)))
 
--- a run from a safe site that ended before its core began
-pub went_in_place : (job : Job) (format : ℕ) (given : Input) (answer : Status) (earlier : List Entry) (h h1 : Disk) →
-    IsLawful h
-    → IsLawful h1 → IsSafeFor job format h earlier → ((set : ℕ) → h1.contents set ≡ h.contents set) → h1.sent ≡ h.sent
-    → Through h h1 (Syncs h 0) → MayStandIn answer → Went job format given earlier answer h h1
-went_in_place job format given answer earlier h h1 law law1 safe contents sent run stands =
-    went_not job format given earlier h h1 law law1 safe contents sent run answer stands
-
 -- a fault isn't Done
-pub stands_not_done : (answer : Status) → MayStandIn answer → ¬ (answer ≡ Done)
+stands_not_done : (answer : Status) → MayStandIn answer → ¬ (answer ≡ Done)
 stands_not_done answer stands done = subst MayStandIn done stands
 
--- where nothing was done
-pub ran_not : (job : Job) (given : Input) (answer : Status) (h : Disk) → IsLawful h → MayStandIn answer
+-- where a restart came to this answer, or none was made
+pub ran_not : (job : Job) (given : Input) (answer : Status) (h h1 : Disk) → IsLawful h → IsLawful h1
+    → IsUnchanged h h1 → ¬ (answer ≡ Done)
+    → ((format : ℕ) (earlier : List Entry) → IsSoundFor job format (h.contents 0) earlier
+    → ¬ (IsOld job (h.contents 0)) → MayStandIn answer)
+    → Ran job given answer h h1
+ran_not job given answer h h1 law law1 same undone stands = record {
+  spares = λ why. same;
+  first = λ it. (same, undone);
+  others = spares_syncs h h1 same.contents same.crash;
+  keeps = λ format groups gate log. weaker (Syncs h 0) (KeepsFront gate h) h h1 (λ s d. inl d) same.crash;
+  goes = λ format earlier safe new.
+      went_not job format given earlier h h1 law law1 safe same.contents same.sent same.crash answer
+      (stands format earlier safe.now new);
+}
+
+pub unrun : (job : Job) (given : Input) (answer : Status) (h : Disk) → IsLawful h → MayStandIn answer
     → Ran job given answer h h
-ran_not job given answer h law stands =
-    ran job given answer h h (λ why. unchanged_same h law) (λ first.
-    (unchanged_same h law, stands_not_done answer stands))
-    (spares_none IsLog h law)
-    (λ format groups gate log. kept_synced job given answer h h (started (Syncs h 0) h law (same_synced h)) gate)
-    (λ format earlier safe new.
-    went_in_place job format given answer earlier h h law law safe (λ set. refl) refl
-    (started (Syncs h 0) h law (same_synced h)) stands)
+unrun job given answer h law stands =
+    ran_not job given answer h h law law (unchanged_same h law) (stands_not_done answer stands)
+    (λ format earlier sound new. stands)
 
 pub before_site : {P : Type 0} (found : Option Command) (answer : Status) → (IsEarly answer → P)
     → (answer ≡ ReadFault → ¬ (found ≡ Some Run) → P) → (answer ≡ NoMemory → found ≡ Some Define → P)
@@ -115,7 +100,8 @@ before_site found (Illegal entry) e f m h = e h
 
 -- A log that can be read stays before its gate, whatever its entries are, where what follows a restart keeps the bytes
 -- in front of it.
-pub kept_front : (job : Job) (h h1 h2 : Disk) → ((set : ℕ) → h1.contents set ≡ h.contents set) → Through h h1 (Syncs h 0)
+pub kept_front : (job : Job) (h h1 h2 : Disk) → ((set : ℕ) → h1.contents set ≡ h.contents set)
+    → Through h h1 (Syncs h 0)
     → (store : Stored) (state : LogState) (lasts : Numbered) (first_format : ℕ)
     → ReadsBack job.defs (front_in first_format job) h1 store state lasts → KeepsFronts h1 state.gate h2
     → (format : ℕ) (groups : List (List Entry)) (gate : ℕ) → Holds (front_in format job) (h.contents 0) groups gate
@@ -140,3 +126,18 @@ kept_front job h h1 h2 contents run store state lasts first_format back keeps fo
     joined (KeepsFront gate h) h h1 h2 (weaker (Syncs h 0) (KeepsFront gate h) h h1 (λ s d. inl d) run)
     (weaker (HasFrontOf (h.contents 0) gate) (KeepsFront gate h) h1 h2 (λ s kept. inr kept)
     (keeps (h.contents 0) gate has))
+
+-- What a run gives of a good log of format 2, by how it went behind the restart.
+pub ran_on : (job : Job) (given : Input) (answer : Status) (h h1 h2 : Disk) → IsLawful h1 → IsUnchanged h h1
+    → (store : Stored) (state : LogState) (lasts : Numbered) → IsRestarted job h h1 store state lasts
+    → ¬ (state.format ≡ 1) → Spares IsLog h1 h2 → KeepsFronts h1 state.gate h2
+    → ((format : ℕ) (earlier : List Entry) → IsSafeFor job format h earlier
+    → Went job format given earlier answer h h2)
+    → Ran job given answer h h2
+ran_on job given answer h h1 h2 law1 same store state lasts it new others fronts goes = record {
+  spares = λ why. absurd (not_spared job (h.contents 0) it.good why);
+  first = λ was. absurd (new_told job h h1 same.contents store state lasts it new was);
+  others = spares_on IsLog h h1 h2 law1 (spares_syncs h h1 same.contents same.crash) others;
+  keeps = kept_front job h h1 h2 same.contents same.crash store state lasts state.front_format it.back fronts;
+  goes = λ format earlier safe new. goes format earlier safe;
+}

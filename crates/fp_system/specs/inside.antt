@@ -1,3 +1,4 @@
+pub mod Acted
 pub mod Answers
 pub mod Courses
 pub mod Setups

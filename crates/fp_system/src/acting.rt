@@ -4,31 +4,33 @@ ghost use Rattle.fp_core.specs.Standing.{IsEventOf, Origin};
 ghost use Rattle.fp_lists.specs.Continued.{IsContinued};
 ghost use Rattle.fp_exits.specs.Kinds.{has_kind, kinds_of};
 ghost use Rattle.fp_model.specs.History.{History};
-ghost use Rattle.fp_model.specs.LogText.{Front, first_gate};
+ghost use Rattle.fp_core.specs.declared.stop.Stop.{Stop as StopOf};
+ghost use Rattle.fp_model.specs.LogText.{Front};
 ghost use Rattle.fp_model.specs.Messages.{lines_of};
-ghost use Rattle.fp_site.specs.Disk.{Disk, Settles};
-ghost use Rattle.fp_site.specs.Moments.{OnlyOn, Through};
+ghost use Rattle.fp_site.specs.Moments.{OnlyOn};
 ghost use Rattle.fp_site.specs.Site.{ReadsNothing};
 ghost use Rattle.fp_source.specs.declared.part.Part.TheVariants as part;
-ghost use Rattle.fp_system.specs.Answers.{IsEarly, IsOfLog, MayStandIn, faulty_line};
-ghost use Rattle.fp_system.specs.inside.Answers.{IsOr, IsStop, status_of_audit, status_of_fault};
+ghost use Rattle.fp_system.specs.Answers.{IsEarly, IsOfLog, MayStandIn, faulty_line, status_of_stop};
+ghost use Rattle.fp_system.specs.inside.Acted.{IsRefusedLog, IsRestarted, Made, Seals};
+ghost use Rattle.fp_system.specs.inside.Answers.{IsOfSite, answer_of, status_of_audit, status_of_seal};
 ghost use Rattle.fp_system.specs.Causes.{IsCaused, IsCausedBySite};
 ghost use Rattle.fp_system.specs.Courses.{input};
 ghost use Rattle.fp_system.specs.inside.Courses.{IsBegun, RanFrom};
 ghost use Rattle.fp_core.specs.Sparing.{IsLogSet as IsLog, Spares};
-ghost use Rattle.fp_system.specs.Gives.{Audited, HasNewText, Logged, Migrated, Ran, Shown, format_entry};
+ghost use Rattle.fp_system.specs.Gives.{Audited, Logged, Migrated, Ran, Shown, format_entry};
+ghost use Rattle.fp_system.specs.Ims.{IsUnchanged};
 ghost use Rattle.fp_system.specs.Parts.{front_for};
 ghost use Rattle.fp_system.specs.inside.Setups.{IsSetup, job_of};
 ghost use Rattle.fp_system.specs.Table.{ByEntries, ByGroups, ByLog, IsEnd};
 ghost use Rattle.fp_system.specs.declared.status.Status.TheVariants as status;
-ghost use Rattle.log_groups.specs.Images.{IsAtRest, IsBeforeOrAfter, IsBeforeOrMade, IsWithOrWithout};
+ghost use Rattle.log_groups.specs.Images.{IsAtRest};
 ghost use Rattle.log_groups.specs.Reads.{ReadsOnlyLog};
 ghost use Rattle.msdb_store.specs.Store.{IsOf};
 ghost use Rattle.site_texts.specs.Texts.{ReadsOnce};
 ghost use Rattle.std.specs.List.{AllByRecursion};
 ghost use Rattle.fp_model.specs.declared.log.Entry.{Entry as EntryOf};
 ghost use Rattle.fp_restart.specs.Replayed.{AreOfSome};
-ghost use Rattle.std.specs.Prelude.{◌≡◌, ◌⊎◌, ◌≤◌, ◌∷◌, ◌++◌, ℕ, [], IfErr, List as ListOf, None, OnOk, Some, false, true};
+ghost use Rattle.std.specs.Prelude.{◌≡◌, ◌⊎◌, ◌∷◌, ℕ, [], IfErr, IfOk, List as ListOf, None, OnOk, Some, true};
 
 use crate::Status;
 use crate::parts::{Setup, Task};
@@ -38,7 +40,7 @@ use fp_model::{Bytes, Entry, List, Outcome};
 use fp_restart::{RestartFault, define, restart};
 use fp_site::Site;
 use fp_source::Source;
-use log_groups::Log;
+use log_groups::{Log, SealFault};
 use schedule_runs::run_schedule;
 use site_audit::{AuditFault, audit};
 use site_texts::{log, show};
@@ -47,61 +49,42 @@ use std::alloc::{AllocError, Global};
 // The format of a log in which no message has a number.
 const OLD_FORMAT: u8 = 1;
 
-// Whether no message of this log's next line has a number.
-fn is_old(log: &Log) -> bool
-    ensures old { result ≡ true → log.now.format ≡ 1 }
-    ensures new { result ≡ false → ¬ (log.now.format ≡ 1) }
+// The answer to what a call of storage came to.
+fn answer_to(done: Result<(), RestartFault>) -> Status
+    ensures { result ≡ answer_of done }
 {
-    log.format() == OLD_FORMAT
-}
-
-// The status of a fault of storage.
-fn fault_status(fault: RestartFault) -> Status
-    ensures { result ≡ status_of_fault fault }
-{
-    match fault {
-        RestartFault::Foreign => Status::Foreign,
-        RestartFault::SiteFault => Status::SiteFault,
-        RestartFault::Damaged { set, at } => Status::Damaged { set, at },
-        RestartFault::Memory => Status::NoMemory,
+    match done {
+        Ok(()) => Status::Done,
+        Err(RestartFault::Foreign) => Status::Foreign,
+        Err(RestartFault::SiteFault) => Status::SiteFault,
+        Err(RestartFault::Damaged { set, at }) => Status::Damaged { set, at },
+        Err(RestartFault::Memory) => Status::NoMemory,
     }
 }
 
 /// Makes the site anew.
 pub(crate) fn define_on<T: Site>(alloc: Global, site: &mut T, setup: &Setup) -> Status
     requires { IsSetup setup.now }
-    ensures outcome { IsOr status.Done result }
-    ensures made { T.told site.old → result ≡ status.Done →
-        IsAtRest (T.disk site.new) (front_for (job_of setup.now)) [] (first_gate (front_for (job_of setup.now))) }
-    ensures early { IsEarly result → ⊥ }
-    ensures never { result ≡ status.ReadFault → ⊥ }
-    ensures cause { IsCausedBySite (T.faults site.old) (T.faults site.new) result }
+    ensures due { result ≡ status.Done ⊎ MayStandIn result }
 
-    // The new log is its front and a closed gate; behind that stands what stood there.
-    ensures text { T.told site.old → result ≡ status.Done →
-        HasNewText (job_of setup.now) ((T.disk site.old).contents 0) ((T.disk site.new).contents 0) }
+    // The new log is its front and a closed gate; behind that stands what stood there. A crash at any moment leaves it
+    // as a sync might have left it before, or with no open front, or made.
+    ensures made { T.told site.old → Made (job_of setup.now) result (T.disk site.old) (T.disk site.new) }
+    ensures of { IsOfSite result }
+    ensures cause { IsCausedBySite (T.faults site.old) (T.faults site.new) result }
 
     // Want of memory comes before the site is touched.
     ensures untouched { result ≡ status.NoMemory → site.new ≡ site.old }
 
-    // Of the log no more is read than there is.
+    // Of the log no more is read than there is, and no other data set.
     ensures once { T.told site.old → T.tells_reads site.new 0 →
         ReadsOnce (front_for (job_of setup.now)) ((T.disk site.old).contents 0)
         (T.bytes_read site.old 0) (T.bytes_read site.new 0) }
-
-    // No other data set changes or is read, and nothing is sent. A crash at any moment leaves the log as a sync might
-    // have left it before, or with no open front, or made.
     ensures reads { ReadsOnlyLog (T.tells_reads site.old) (T.tells_reads site.new)
         (T.bytes_read site.old) (T.bytes_read site.new) }
-    ensures only { T.told site.old → OnlyOn 0 (T.disk site.old) (T.disk site.new) }
-    ensures crash { T.told site.old →
-        Through (T.disk site.old) (T.disk site.new) (IsBeforeOrMade (T.disk site.old) (front_for (job_of setup.now))) }
     ensures site { IsContinued T.told T.faults T.holds T.keeps site.old site.new }
 {
-    match define(alloc, &setup.defs, &setup.front, site) {
-        Ok(()) => Status::Done,
-        Err(fault) => fault_status(fault),
-    }
+    answer_to(define(alloc, &setup.defs, &setup.front, site))
 }
 
 /// Restarts, and sends the text of the databases.
@@ -111,8 +94,7 @@ pub(crate) fn show_on<T: Site>(alloc: Global, site: &mut T, setup: &Setup) -> St
         ByLog (job_of setup.now) ((T.disk site.old).contents 0) (λ behind. behind ≡ status.Done) result
         ⊎ MayStandIn result }
     ensures shown { T.told site.old → Shown (job_of setup.now) result (T.disk site.old) (T.disk site.new) }
-    ensures early { IsEarly result → ⊥ }
-    ensures never { result ≡ status.ReadFault → ⊥ }
+    ensures of { IsOfSite result }
     ensures cause { IsCausedBySite (T.faults site.old) (T.faults site.new) result }
 
     // Each byte of the log is read once, and no other data set.
@@ -123,10 +105,7 @@ pub(crate) fn show_on<T: Site>(alloc: Global, site: &mut T, setup: &Setup) -> St
         (T.bytes_read site.old) (T.bytes_read site.new) }
     ensures site { IsContinued T.told T.faults T.holds T.keeps site.old site.new }
 {
-    match show(alloc, &setup.defs, &setup.front, site) {
-        Ok(()) => Status::Done,
-        Err(why) => fault_status(why),
-    }
+    answer_to(show(alloc, &setup.defs, &setup.front, site))
 }
 
 /// Sends the text of the log's groups.
@@ -135,8 +114,7 @@ pub(crate) fn log_on<T: Site>(alloc: Global, site: &mut T, setup: &Setup) -> Sta
     ensures due { T.told site.old → ByGroups (job_of setup.now) ((T.disk site.old).contents 0) result
         ⊎ MayStandIn result }
     ensures logged { T.told site.old → Logged (job_of setup.now) result (T.disk site.old) (T.disk site.new) }
-    ensures early { IsEarly result → ⊥ }
-    ensures never { result ≡ status.ReadFault → ⊥ }
+    ensures of { IsOfSite result }
     ensures cause { IsCausedBySite (T.faults site.old) (T.faults site.new) result }
 
     // Each byte of the log is read once, and no other data set.
@@ -147,22 +125,20 @@ pub(crate) fn log_on<T: Site>(alloc: Global, site: &mut T, setup: &Setup) -> Sta
         (T.bytes_read site.old) (T.bytes_read site.new) }
     ensures site { IsContinued T.told T.faults T.holds T.keeps site.old site.new }
 {
-    match log(alloc, &setup.front, site) {
-        Ok(()) => Status::Done,
-        Err(why) => fault_status(why),
-    }
+    answer_to(log(alloc, &setup.front, site))
 }
 
-// The status of a log that an audit didn't find legal.
-fn audit_status(fault: AuditFault) -> Status
-    ensures { result ≡ status_of_audit fault }
+// The answer to what an audit came to.
+fn audit_status(audited: Result<u64, AuditFault>) -> Status
+    ensures { result ≡ status_of_audit audited }
 {
-    match fault {
-        AuditFault::Foreign => Status::Foreign,
-        AuditFault::SiteFault => Status::SiteFault,
-        AuditFault::Damaged(at) => Status::Damaged { set: 0, at },
-        AuditFault::Illegal(entry) => Status::Illegal { entry },
-        AuditFault::Memory => Status::NoMemory,
+    match audited {
+        Ok(_) => Status::Done,
+        Err(AuditFault::Foreign) => Status::Foreign,
+        Err(AuditFault::SiteFault) => Status::SiteFault,
+        Err(AuditFault::Damaged(at)) => Status::Damaged { set: 0, at },
+        Err(AuditFault::Illegal(entry)) => Status::Illegal { entry },
+        Err(AuditFault::Memory) => Status::NoMemory,
     }
 }
 
@@ -172,8 +148,7 @@ pub(crate) fn audit_on<T: Site>(alloc: Global, site: &mut T, exits: &Exits, setu
     ensures due { T.told site.old → ByEntries (job_of setup.now) ((T.disk site.old).contents 0) result
         ⊎ MayStandIn result }
     ensures audited { T.told site.old → Audited (job_of setup.now) result (T.disk site.old) (T.disk site.new) }
-    ensures early { IsEarly result → ⊥ }
-    ensures never { result ≡ status.ReadFault → ⊥ }
+    ensures of { IsOfSite result }
     ensures cause { IsCausedBySite (T.faults site.old) (T.faults site.new) result }
 
     // Each byte of the log is read once, and no other data set.
@@ -184,16 +159,42 @@ pub(crate) fn audit_on<T: Site>(alloc: Global, site: &mut T, exits: &Exits, setu
         (T.bytes_read site.old) (T.bytes_read site.new) }
     ensures site { IsContinued T.told T.faults T.holds T.keeps site.old site.new }
 {
-    match audit(
+    audit_status(audit(
         alloc,
         &setup.defs,
         &setup.scripts,
         exits,
         &setup.front,
         site,
-    ) {
-        Ok(_) => Status::Done,
-        Err(why) => audit_status(why),
+    ))
+}
+
+// What a restart gives a run or a migration, or the answer that is given instead.
+fn restart_for<T: Site>(alloc: Global, site: &mut T, setup: &Setup) -> Result<Started, Status>
+    requires { IsSetup setup.now }
+    ensures ok { T.told site.old → IfOk result (λ started. IsRestarted (job_of setup.now) (T.disk site.old)
+        (T.disk site.new) started.msdbs started.log started.lasts) }
+    ensures of { IfOk result (λ started. IsOf setup.now.defs.msdbs started.msdbs) }
+    ensures unsealed { IfOk result (λ started. started.log.unsealed ≡ []) }
+    ensures numbers { IfOk result (λ started. AreOfSome started.log started.lasts) }
+    ensures stayed { OnOk result (T.faults site.new ≡ T.faults site.old) }
+    ensures refused { T.told site.old → IfErr result
+        (IsRefusedLog (job_of setup.now) (T.disk site.old) (T.disk site.new)) }
+    ensures fault { IfErr result (λ answer. IsOfSite answer × ¬ (answer ≡ status.Done)) }
+    ensures cause { IfErr result (IsCausedBySite (T.faults site.old) (T.faults site.new)) }
+
+    // Nothing changes but for a sync of the log. Each byte of it is read once, and no other data set.
+    ensures unchanged { T.told site.old → IsUnchanged (T.disk site.old) (T.disk site.new) }
+    ensures once { T.told site.old → T.tells_reads site.new 0 →
+        ReadsOnce (front_for (job_of setup.now)) ((T.disk site.old).contents 0)
+        (T.bytes_read site.old 0) (T.bytes_read site.new 0) }
+    ensures reads { ReadsOnlyLog (T.tells_reads site.old) (T.tells_reads site.new)
+        (T.bytes_read site.old) (T.bytes_read site.new) }
+    ensures site { IsContinued T.told T.faults T.holds T.keeps site.old site.new }
+{
+    match restart(alloc, &setup.defs, &setup.front, site) {
+        Ok((msdbs, log, lasts)) => Ok(Started { msdbs, log, lasts }),
+        Err(fault) => Err(answer_to(Err(fault))),
     }
 }
 
@@ -219,7 +220,7 @@ fn run_started<S: Source, T: Site>(
         RanFrom (job_of task.now.setup) (input task.now.events (lines_of (S.left source.old part.Messages))) origin h
         result (T.disk site.old) (T.disk site.new)
         ⊎ ((result ≡ status.NoMemory) × (site.new ≡ site.old)) }
-    ensures outcome { result ≡ status.Done ⊎ IsStop result }
+    ensures outcome { result ≡ status.Done ⊎ ((why : StopOf) × (result ≡ status_of_stop why)) }
     ensures all { S.told source.old → result ≡ status.Done → faulty_line (S.left source.old part.Messages) ≡ None }
     ensures line { (number : ℕ) → S.told source.old → result ≡ status.Line number
         → faulty_line (S.left source.old part.Messages) ≡ Some number }
@@ -281,22 +282,14 @@ pub(crate) fn run_on<S: Source, T: Site>(
     ensures source { IsContinued S.told S.faults S.holds S.keeps source.old source.new }
     ensures site { IsContinued T.told T.faults T.holds T.keeps site.old site.new }
 {
-    let setup = &task.setup;
-    let (msdbs, log, lasts) = match restart(alloc, &setup.defs, &setup.front, site) {
-        Ok(parts) => parts,
-        Err(fault) => return fault_status(fault),
+    let started = match restart_for(alloc, site, &task.setup) {
+        Ok(started) => started,
+        Err(answer) => return answer,
     };
-    if is_old(&log) {
+    if started.log.format() == OLD_FORMAT {
         return Status::OldFormat;
     }
-    run_started(
-        alloc,
-        source,
-        site,
-        exits,
-        task,
-        Started { msdbs, log, lasts },
-    )
+    run_started(alloc, source, site, exits, task, started)
 }
 
 // The entry from whose place on messages may have numbers.
@@ -324,34 +317,33 @@ fn append_format(alloc: Global, log: &mut Log) -> Result<(), AllocError>
     Ok(())
 }
 
-// Appends and seals it.
-fn seal_format<T: Site>(alloc: Global, site: &mut T, log: &mut Log) -> Result<(), Status>
-    requires { log.old.unsealed ≡ [] }
-    ensures refused { IfErr result (λ answer. (answer ≡ status.SiteFault) ⊎ (answer ≡ status.NoMemory)) }
-    ensures cause { IfErr result (IsCausedBySite (T.faults site.old) (T.faults site.new)) }
-    ensures stayed { OnOk result (T.faults site.new ≡ T.faults site.old) }
+// The answer to a group that was sealed or wasn't.
+fn seal_status(sealed: Result<u32, SealFault>) -> Status
+    ensures { result ≡ status_of_seal sealed }
+{
+    match sealed {
+        Ok(_) => Status::Done,
+        Err(_) => Status::SiteFault,
+    }
+}
 
-    // Where the log is at rest a crash leaves its groups, or these and the one with that entry, whole; and so does each
-    // image that a further sync may make. At Ok the one is there for good.
-    ensures crash { (front : Front) (groups : ListOf (ListOf EntryOf)) → T.told site.old
-        → IsAtRest (T.disk site.old) front groups log.old.gate → Through (T.disk site.old) (T.disk site.new)
-        (IsBeforeOrAfter front groups log.old.gate (format_entry log.old.sealed ∷ [])) }
-    ensures settles { (front : Front) (groups : ListOf (ListOf EntryOf)) (image : ListOf ℕ) → T.told site.old
-        → IsAtRest (T.disk site.old) front groups log.old.gate → Settles (T.disk site.new) 0 image
-        → IsWithOrWithout front groups log.old.gate (format_entry log.old.sealed ∷ []) image }
-    ensures durable { (front : Front) (groups : ListOf (ListOf EntryOf)) → T.told site.old
-        → IsAtRest (T.disk site.old) front groups log.old.gate → OnOk result
-        (IsAtRest (T.disk site.new) front (groups ++ (format_entry log.old.sealed ∷ []) ∷ []) log.new.gate) }
+// Appends and seals it.
+fn seal_format<T: Site>(alloc: Global, site: &mut T, log: &mut Log) -> Status
+    requires { log.old.unsealed ≡ [] }
+    ensures outcome { (result ≡ status.Done) ⊎ ((result ≡ status.SiteFault) ⊎ (result ≡ status.NoMemory)) }
+    ensures cause { IsCausedBySite (T.faults site.old) (T.faults site.new) result }
+    ensures seals { (front : Front) (groups : ListOf (ListOf EntryOf)) → T.told site.old
+        → IsAtRest (T.disk site.old) front groups log.old.gate → Seals front groups log.old.gate
+        (format_entry log.old.sealed) result (T.disk site.old) (T.disk site.new) }
     ensures front { T.told site.old → KeepsFronts (T.disk site.old) log.old.gate (T.disk site.new) }
     ensures only { T.told site.old → OnlyOn 0 (T.disk site.old) (T.disk site.new) }
     ensures reads { ReadsNothing (T.tells_reads site.old) (T.tells_reads site.new)
         (T.bytes_read site.old) (T.bytes_read site.new) }
     ensures site { IsContinued T.told T.faults T.holds T.keeps site.old site.new }
 {
-    append_format(alloc, log)?;
-    match log.seal(site, 1) {
-        Ok(_) => Ok(()),
-        Err(_) => Err(Status::SiteFault),
+    match append_format(alloc, log) {
+        Ok(()) => seal_status(log.seal(site, 1)),
+        Err(_) => Status::NoMemory,
     }
 }
 
@@ -362,8 +354,7 @@ pub(crate) fn migrate_on<T: Site>(alloc: Global, site: &mut T, setup: &Setup) ->
         ByLog (job_of setup.now) ((T.disk site.old).contents 0) (λ behind. behind ≡ status.Done) result
         ⊎ MayStandIn result }
     ensures migrated { T.told site.old → Migrated (job_of setup.now) result (T.disk site.old) (T.disk site.new) }
-    ensures early { IsEarly result → ⊥ }
-    ensures never { result ≡ status.ReadFault → ⊥ }
+    ensures of { IsOfSite result }
     ensures cause { IsCausedBySite (T.faults site.old) (T.faults site.new) result }
 
     // Each byte of the log is read once, and no other data set.
@@ -374,15 +365,12 @@ pub(crate) fn migrate_on<T: Site>(alloc: Global, site: &mut T, setup: &Setup) ->
         (T.bytes_read site.old) (T.bytes_read site.new) }
     ensures site { IsContinued T.told T.faults T.holds T.keeps site.old site.new }
 {
-    let (_msdbs, mut log, _lasts) = match restart(alloc, &setup.defs, &setup.front, site) {
-        Ok(parts) => parts,
-        Err(why) => return fault_status(why),
+    let mut started = match restart_for(alloc, site, setup) {
+        Ok(started) => started,
+        Err(fault) => return fault,
     };
-    if !is_old(&log) {
+    if started.log.format() != OLD_FORMAT {
         return Status::Done;
     }
-    match seal_format(alloc, site, &mut log) {
-        Ok(()) => Status::Done,
-        Err(fault) => fault,
-    }
+    seal_format(alloc, site, &mut started.log)
 }

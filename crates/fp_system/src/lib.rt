@@ -2,6 +2,7 @@
 #![tactic(auto)]
 
 mod acting;
+mod commands;
 mod parts;
 mod status;
 mod texts;

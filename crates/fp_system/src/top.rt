@@ -18,9 +18,8 @@ ghost use Rattle.log_groups.specs.Reads.{ReadsOnlyLog};
 ghost use Rattle.std.specs.Prelude.{◌≡◌, ◌⊎◌, None, Some, List as ListOf, map, string_bytes};
 
 use crate::Status;
-use crate::acting::{audit_on, define_on, log_on, migrate_on, run_on, show_on};
-use crate::parts::read_task;
-use command_words::{Command, command_of};
+use crate::commands::obey;
+use command_words::command_of;
 use fp_exits::Exits;
 use fp_site::Site;
 use fp_source::Source;
@@ -96,20 +95,5 @@ pub fn ims<S: Source, T: Site>(
     ensures source { IsContinued S.told S.faults S.holds S.keeps source.old source.new }
     ensures site { IsContinued T.told T.faults T.holds T.keeps site.old site.new }
 {
-    let command = match command_of(alloc, words) {
-        Ok(Some(command)) => command,
-        Ok(None) => return Status::Usage,
-        Err(_) => return Status::NoMemory,
-    };
-    match read_task(alloc, source, exits, command) {
-        Ok(task) => match command {
-            Command::Define => define_on(alloc, site, &task.setup),
-            Command::Run => run_on(alloc, source, site, exits, &task),
-            Command::Show => show_on(alloc, site, &task.setup),
-            Command::Log => log_on(alloc, site, &task.setup),
-            Command::Migrate => migrate_on(alloc, site, &task.setup),
-            Command::Audit => audit_on(alloc, site, exits, &task.setup),
-        },
-        Err(answer) => answer,
-    }
+    obey(alloc, source, site, exits, command_of(alloc, words))
 }

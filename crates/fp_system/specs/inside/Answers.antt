@@ -1,5 +1,5 @@
 -- What bodies and proofs need of Answers, beside what contracts say.
-use Rattle.std.specs.Prelude.{◌≡◌, ◌⊎◌, ⊤}
+use Rattle.std.specs.Prelude.{◌≡◌, ⊤, Err, Ok, Result}
 use Rattle.def_tables.specs.declared.fault.DefsFault.{DefsFault}
 use Rattle.def_tables.specs.declared.fault.DefsFault.TheVariants as bad
 use Rattle.fp_restart.specs.declared.fault.RestartFault.{RestartFault}
@@ -7,16 +7,16 @@ use Rattle.fp_restart.specs.declared.fault.RestartFault.TheVariants as fault
 use Rattle.fp_schedule.specs.declared.fault.ScheduleFault.{ScheduleFault}
 use Rattle.fp_schedule.specs.declared.fault.ScheduleFault.TheVariants as unfit
 use Rattle.fp_system.specs.declared.status.Status.{Status}
-use Rattle.fp_system.specs.declared.status.Status.TheVariants.{Definitions, Scripts, Schedule, ReadFault, SiteFault, Foreign, Damaged, Line, NoMemory, NotBuilt, Illegal}
+use Rattle.fp_system.specs.declared.status.Status.TheVariants.{Definitions, Done, Scripts, Schedule, ReadFault, SiteFault, Foreign, Damaged, NoMemory, NotBuilt, Illegal}
 use Rattle.site_audit.specs.declared.fault.AuditFault.{AuditFault}
 use Rattle.site_audit.specs.declared.fault.AuditFault.TheVariants as unsound
 use Rattle.txn_lang.specs.declared.fault.ScriptFault.{ScriptFault}
 use Rattle.txn_lang.specs.declared.fault.ScriptFault.TheVariants as wrong
-use Rattle.fp_system.specs.Answers.{MayStandIn}
+use Rattle.fp_system.specs.Answers.{IsEarly}
 
--- this answer, or a fault in its place
-abbrev pub IsOr : Status → Status → Type 0
-IsOr status result = (result ≡ status) ⊎ MayStandIn result
+-- an answer of a command that reads no line: it isn't early, and no read fault
+abbrev pub IsOfSite : Status → Type 0
+IsOfSite answer = (IsEarly answer → ⊥) × (answer ≡ ReadFault → ⊥)
 
 -- an answer to the parts
 abbrev pub IsOfParts : Status → Type 0
@@ -27,14 +27,6 @@ IsOfParts (NotBuilt part) = ⊤
 IsOfParts ReadFault = ⊤
 IsOfParts NoMemory = ⊤
 IsOfParts _ = ⊥
-
--- an answer that ends a run before it is drained
-abbrev pub IsStop : Status → Type 0
-IsStop ReadFault = ⊤
-IsStop SiteFault = ⊤
-IsStop (Line number) = ⊤
-IsStop NoMemory = ⊤
-IsStop _ = ⊥
 
 -- ---- the answer to each fault
 
@@ -60,10 +52,23 @@ status_of_fault fault.SiteFault = SiteFault
 status_of_fault (fault.Damaged set at) = Damaged set at
 status_of_fault fault.Memory = NoMemory
 
+-- ---- the answer to what a call came to
+
+-- of storage
+abbrev pub answer_of : {A : Type 0} → Result A RestartFault → Status
+answer_of (Ok x) = Done
+answer_of (Err why) = status_of_fault why
+
+-- of a seal
+abbrev pub status_of_seal : {A E : Type 0} → Result A E → Status
+status_of_seal (Ok x) = Done
+status_of_seal (Err why) = SiteFault
+
 -- of an audit
-abbrev pub status_of_audit : AuditFault → Status
-status_of_audit unsound.Foreign = Foreign
-status_of_audit unsound.SiteFault = SiteFault
-status_of_audit (unsound.Damaged at) = Damaged 0 at
-status_of_audit (unsound.Illegal entry) = Illegal entry
-status_of_audit unsound.Memory = NoMemory
+abbrev pub status_of_audit : {A : Type 0} → Result A AuditFault → Status
+status_of_audit (Ok x) = Done
+status_of_audit (Err unsound.Foreign) = Foreign
+status_of_audit (Err unsound.SiteFault) = SiteFault
+status_of_audit (Err (unsound.Damaged at)) = Damaged 0 at
+status_of_audit (Err (unsound.Illegal entry)) = Illegal entry
+status_of_audit (Err unsound.Memory) = NoMemory

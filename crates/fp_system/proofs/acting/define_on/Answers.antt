@@ -1,46 +1,45 @@
-use Rattle.std.proofs.Common.{◌≡◌, ◌∙◌, ◌++◌, [], drop, ap, refl, sym, subst}
-use Rattle.fp_system.specs.inside.Setups.{job_of}
-use Rattle.fp_system.proofs.SentTexts.{read_one}
-use Rattle.std.specs.Prelude.{◌+◌, Err}
-use Rattle.fp_model.specs.LogText.{Front, first_gate, log_text}
-use Rattle.log_groups.specs.Images.{IsAtRest}
+use Rattle.std.proofs.Common.{◌≡◌, ◌∙◌, ◌⊎◌, sym, subst}
+use Rattle.fp_system.specs.Answers.{MayStandIn}
 use Rattle.fp_system.specs.Causes.{IsCausedBySite}
-use Rattle.fp_system.proofs.CauseLemmas.{fault_by_site, memory_fault, one_err}
+use Rattle.fp_system.specs.declared.status.Status.{Status}
+use Rattle.fp_system.specs.declared.status.Status.TheVariants.{Done}
+use Rattle.fp_system.specs.inside.Acted.{Made}
+use Rattle.fp_system.specs.inside.Answers.{IsOfSite}
+use Rattle.fp_system.specs.inside.Setups.{job_of}
+use Rattle.fp_system.proofs.CauseLemmas.{done_by_site, done_of_site, memory_done}
+use Rattle.fp_system.proofs.Making.{made_due, made_for}
+use Rattle.fp_system.proofs.SentTexts.{read_one}
 use Rattle.fp_system.proofs.acting.define_on.Goals as goal
 
-pub returns-in-Ok-clause-made : goal.returns-in-Ok-clause-made
-returns-in-Ok-clause-made g c t done =
-    subst (λ (front : Front). IsAtRest (g.T.Site.disk c.define.new.site) front [] (first_gate front)) c.requires.front
-    (c.in-Ok.ensures.made t)
+pub returns-clause-due : goal.returns-clause-due
+returns-clause-due g c =
+    subst (λ (answer : Status). (answer ≡ Done) ⊎ MayStandIn answer) (sym c.answer_to.ensures)
+    (made_due c.define.result c.define.ensures.never)
 
-pub returns-in-Ok-clause-text : goal.returns-in-Ok-clause-text
-returns-in-Ok-clause-text g c t done =
-    let old = (g.T.Site.disk c.args.site.now).contents 0 in
-    let new = (g.T.Site.disk c.define.new.site).contents 0 in
-    subst (λ (front : Front). new ≡ log_text front [] ++ drop (first_gate front + 1) old) c.requires.front
-    (c.in-Ok.ensures.text t)
+pub returns-clause-made : goal.returns-clause-made
+returns-clause-made g c t =
+    let old = g.T.Site.disk c.args.site.now in
+    let new = g.T.Site.disk c.define.new.site in
+    let call = c.define.ensures in
+    subst (λ (answer : Status). Made (job_of c.args.setup.now) answer old new) (sym c.answer_to.ensures)
+    (made_for c.args.setup.now c.requires old new c.define.result (call.made t) (call.text t) (call.only t)
+    (call.crash t))
 
-pub returns-in-Ok-clause-cause : goal.returns-in-Ok-clause-cause
-returns-in-Ok-clause-cause g c = c.in-Ok.ensures.stayed (λ e. absurd cc)
+pub returns-clause-of : goal.returns-clause-of
+returns-clause-of g c = subst IsOfSite (sym c.answer_to.ensures) (done_of_site c.define.result)
 
-pub returns-in-Err-clause-cause : goal.returns-in-Err-clause-cause
-returns-in-Err-clause-cause g c =
+pub returns-clause-cause : goal.returns-clause-cause
+returns-clause-cause g c =
     let before = g.T.Site.faults c.args.site.now in
     let now = g.T.Site.faults c.define.new.site in
-    subst (IsCausedBySite before now) (sym c.fault_status.ensures)
-    (fault_by_site before now c.in-Err.fault (λ e. c.in-Err.ensures.cause (ap (λ f. Err f) e))
-    (λ other. c.in-Err.ensures.stayed (λ e. other (one_err _ refl e))))
+    subst (IsCausedBySite before now) (sym c.answer_to.ensures)
+    (done_by_site before now c.define.result c.define.ensures.cause c.define.ensures.stayed)
 
-pub returns-in-Err-clause-untouched : goal.returns-in-Err-clause-untouched
-returns-in-Err-clause-untouched g c none =
-    c.in-Err.ensures.untouched (ap (λ f. Err f) (memory_fault c.in-Err.fault (sym c.fault_status.ensures ∙ none)))
+pub returns-clause-untouched : goal.returns-clause-untouched
+returns-clause-untouched g c none =
+    c.define.ensures.untouched (memory_done c.define.result (sym c.answer_to.ensures ∙ none))
 
-pub returns-in-Ok-clause-once : goal.returns-in-Ok-clause-once
-returns-in-Ok-clause-once g c t tells =
-    read_one (job_of c.args.setup.now) ((g.T.Site.disk c.args.site.now).contents 0)
-    (g.T.Site.bytes_read c.args.site.now 0) (g.T.Site.bytes_read c.define.new.site 0) (c.define.ensures.few tells)
-
-pub returns-in-Err-clause-once : goal.returns-in-Err-clause-once
-returns-in-Err-clause-once g c t tells =
+pub returns-clause-once : goal.returns-clause-once
+returns-clause-once g c t tells =
     read_one (job_of c.args.setup.now) ((g.T.Site.disk c.args.site.now).contents 0)
     (g.T.Site.bytes_read c.args.site.now 0) (g.T.Site.bytes_read c.define.new.site 0) (c.define.ensures.few tells)

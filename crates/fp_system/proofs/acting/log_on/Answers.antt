@@ -1,79 +1,47 @@
-use Rattle.std.proofs.Common.{◌≡◌, ◌∙◌, ap, inl, refl, sym, subst, ℕ}
-use Rattle.std.specs.Prelude.{◌⊎◌, Err}
+use Rattle.std.proofs.Common.{◌⊎◌, sym, subst}
 use Rattle.fp_model.specs.LogText.{Front}
-use Rattle.log_groups.specs.Images.{BeginsFor}
-use Rattle.site_texts.specs.Texts.{IsLogSent, IsSentToDamage, ReadsOnce, SendsGroups}
+use Rattle.site_texts.specs.Texts.{ReadsOnce}
 use Rattle.fp_system.specs.Answers.{MayStandIn}
 use Rattle.fp_system.specs.Causes.{IsCausedBySite}
-use Rattle.fp_system.specs.inside.Setups.{job_of}
-use Rattle.fp_system.specs.Table.{ByGroups, whole}
+use Rattle.fp_system.specs.Gives.{Logged}
+use Rattle.fp_system.specs.Table.{ByGroups}
 use Rattle.fp_system.specs.declared.status.Status.{Status}
-use Rattle.fp_system.proofs.CauseLemmas.{fault_by_site, one_err}
-use Rattle.fp_system.proofs.SentTexts.{damage_is, due_by_groups, fault_not_done}
+use Rattle.fp_system.specs.inside.Answers.{IsOfSite}
+use Rattle.fp_system.specs.inside.Setups.{job_of}
+use Rattle.fp_system.proofs.CauseLemmas.{done_by_site, done_of_site}
+use Rattle.fp_system.proofs.SentTexts.{log_due, logged_for}
 use Rattle.fp_system.proofs.acting.log_on.Goals as goal
 
-pub returns-in-Ok-clause-due : goal.returns-in-Ok-clause-due
-returns-in-Ok-clause-due g c t =
-    let sent = subst (λ (f : Front). IsLogSent f (g.T.Site.disk c.args.site.now) (g.T.Site.disk c.log.new.site))
-    c.requires.front (c.in-Ok.ensures.shown t) in
-    inl (whole sent.groups sent.gate sent.holds)
+pub returns-clause-due : goal.returns-clause-due
+returns-clause-due g c t =
+    let old = g.T.Site.disk c.args.site.now in
+    let call = c.log.ensures in
+    subst (λ (answer : Status). ByGroups (job_of c.args.setup.now) (old.contents 0) answer ⊎ MayStandIn answer)
+    (sym c.answer_to.ensures)
+    (log_due c.args.setup.now c.requires old (g.T.Site.disk c.log.new.site) c.log.result (call.shown t) (call.foreign t)
+    (λ set at. call.damaged set at t))
 
-pub returns-in-Ok-clause-logged : goal.returns-in-Ok-clause-logged
-returns-in-Ok-clause-logged g c t =
+pub returns-clause-logged : goal.returns-clause-logged
+returns-clause-logged g c t =
     let old = g.T.Site.disk c.args.site.now in
     let new = g.T.Site.disk c.log.new.site in
-    record {
-      whole = λ done. subst (λ (f : Front). IsLogSent f old new) c.requires.front (c.in-Ok.ensures.shown t);
-      damaged = λ at e. absurd cc;
-      sends = subst (λ (f : Front). SendsGroups f old new) c.requires.front (c.log.ensures.sends t);
-    }
+    let call = c.log.ensures in
+    subst (λ (answer : Status). Logged (job_of c.args.setup.now) answer old new) (sym c.answer_to.ensures)
+    (logged_for c.args.setup.now c.requires old new c.log.result (call.shown t) (λ set at. call.damaged set at t)
+    (call.sends t))
 
-pub returns-in-Err-clause-due : goal.returns-in-Err-clause-due
-returns-in-Err-clause-due g c t =
-    let job = job_of c.args.setup.now in
-    let old = g.T.Site.disk c.args.site.now in
-    let new = g.T.Site.disk c.log.new.site in
-    subst (λ (answer : Status). ByGroups job (old.contents 0) answer ⊎ MayStandIn answer)
-    (sym c.fault_status.ensures)
-    (due_by_groups job old new c.in-Err.why
-    (λ e. subst (λ (f : Front). ¬ (BeginsFor f (old.contents 0))) c.requires.front
-    (c.in-Err.ensures.foreign t (ap (λ why. Err why) e)).1)
-    (λ set at e.
-    let bad = c.in-Err.ensures.damaged set at t (ap (λ why. Err why) e) in
-    (bad.0, subst (λ (f : Front). IsSentToDamage f at old new) c.requires.front bad.1)))
+pub returns-clause-of : goal.returns-clause-of
+returns-clause-of g c = subst IsOfSite (sym c.answer_to.ensures) (done_of_site c.log.result)
 
-pub returns-in-Err-clause-logged : goal.returns-in-Err-clause-logged
-returns-in-Err-clause-logged g c t =
-    let old = g.T.Site.disk c.args.site.now in
-    let new = g.T.Site.disk c.log.new.site in
-    record {
-      whole = λ done. fault_not_done c.in-Err.why (sym c.fault_status.ensures ∙ done);
-      damaged = λ at e.
-          subst (λ (f : Front). IsSentToDamage f at old new) c.requires.front
-          (c.in-Err.ensures.damaged 0 at t
-          (ap (λ why. Err why) (damage_is c.in-Err.why at (sym c.fault_status.ensures ∙ e)))).1;
-      sends = subst (λ (f : Front). SendsGroups f old new) c.requires.front (c.log.ensures.sends t);
-    }
-
-pub returns-in-Ok-clause-cause : goal.returns-in-Ok-clause-cause
-returns-in-Ok-clause-cause g c = c.in-Ok.ensures.stayed (λ e. absurd cc)
-
-pub returns-in-Err-clause-cause : goal.returns-in-Err-clause-cause
-returns-in-Err-clause-cause g c =
+pub returns-clause-cause : goal.returns-clause-cause
+returns-clause-cause g c =
     let before = g.T.Site.faults c.args.site.now in
     let now = g.T.Site.faults c.log.new.site in
-    subst (IsCausedBySite before now) (sym c.fault_status.ensures)
-    (fault_by_site before now c.in-Err.why (λ e. c.in-Err.ensures.cause (ap (λ f. Err f) e))
-    (λ other. c.in-Err.ensures.stayed (λ e. other (one_err _ refl e))))
+    subst (IsCausedBySite before now) (sym c.answer_to.ensures)
+    (done_by_site before now c.log.result c.log.ensures.cause c.log.ensures.stayed)
 
-pub returns-in-Ok-clause-once : goal.returns-in-Ok-clause-once
-returns-in-Ok-clause-once g c t tells =
-    subst (λ (f : Front). ReadsOnce f ((g.T.Site.disk c.args.site.now).contents 0)
-    (g.T.Site.bytes_read c.args.site.now 0) (g.T.Site.bytes_read c.log.new.site 0)) c.requires.front
-    (c.log.ensures.once t tells)
-
-pub returns-in-Err-clause-once : goal.returns-in-Err-clause-once
-returns-in-Err-clause-once g c t tells =
+pub returns-clause-once : goal.returns-clause-once
+returns-clause-once g c t tells =
     subst (λ (f : Front). ReadsOnce f ((g.T.Site.disk c.args.site.now).contents 0)
     (g.T.Site.bytes_read c.args.site.now 0) (g.T.Site.bytes_read c.log.new.site 0)) c.requires.front
     (c.log.ensures.once t tells)

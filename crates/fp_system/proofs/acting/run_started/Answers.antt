@@ -2,6 +2,7 @@ use Rattle.std.proofs.Common.{◌≡◌, ◌∙◌, ap, inl, inr, refl, sym, sub
 use Rattle.std.specs.Prelude.{Err, option_map}
 use Rattle.fp_core.specs.Standing.{number_of}
 use Rattle.fp_system.proofs.Due.{stop_line}
+use Rattle.fp_core.specs.declared.stop.Stop.TheVariants as stop
 use Rattle.fp_core.specs.Sparing.{IsLogSet as IsLog}
 use Rattle.fp_model.specs.Machine.{at_rest}
 use Rattle.fp_model.specs.Messages.{lines_of}
@@ -112,6 +113,14 @@ returns-clause-ran g c origin h s t is =
     (λ number e. omega (arith, stopped.first number e, none))
     (as_given (λ d r es. Through old new (IsLeftOnWay origin d r es m old)) c.in-Ok.ensures.defs c.in-Ok.ensures.rules
     c.as_slice.ensures (c.run_schedule.ensures.moments origin m t s beside reached))))
+
+-- ---- what is answered
+
+pub returns-in-Err-clause-outcome : goal.returns-in-Err-clause-outcome
+returns-in-Err-clause-outcome g c = inr (stop.Memory, refl)
+
+pub returns-clause-outcome : goal.returns-clause-outcome
+returns-clause-outcome g c = inr (c.in-Err-run_schedule.stop, c.from.ensures)
 
 -- ---- faults, and what is read
 
