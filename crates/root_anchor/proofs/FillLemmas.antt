@@ -32,6 +32,7 @@ use Rattle.root_anchor.specs.Keeping.{KeepsElements}
 use Rattle.root_anchor.specs.inside.Puts.{PutsRoot}
 use Rattle.root_anchor.specs.inside.Rebuilding.{Exchanges, AreApart, RootsStand, Rebuilds, Shares, met_after}
 use Rattle.root_anchor.specs.inside.Standing.{places_of, AreStanding}
+use Rattle.root_anchor.specs.inside.Storing.{IsStored}
 use Rattle.root_anchor.specs.Stored.{ApartKeep}
 use Rattle.root_anchor.proofs.AloneLemmas.{alone_chain, made_root}
 use Rattle.root_anchor.proofs.Apart.{contains-one, holds_or, met-now, met-cases}
@@ -41,7 +42,7 @@ use Rattle.root_anchor.proofs.GapLemmas.{bare_rows, lone, lone_stands}
 use Rattle.root_anchor.proofs.OwnLemmas.{put_keeps_own, root_keeps_own}
 use Rattle.root_anchor.proofs.OneChain.{one_segment, one_chain, chain_has}
 use Rattle.root_anchor.proofs.PutLemmas.{root_keeps_segment, put_keeps_segment, segment_stays}
-use Rattle.root_anchor.proofs.Rebuilt.{place-stays, IsStored, is-stored, apart-kept, own-kept}
+use Rattle.root_anchor.proofs.Rebuilt.{place-stays, is-stored, apart-kept, own-kept}
 use Rattle.root_anchor.proofs.Steps.{finds-place, put-there, puts-segment, takes-one}
 use Rattle.plain_laws.proofs.Alls.{contains_cases, contains_first, contains_later, contains_nothing}
 

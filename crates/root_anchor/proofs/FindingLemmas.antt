@@ -20,6 +20,7 @@ use Rattle.root_anchor.specs.Chains.{AreRows, no_row, row_end, segment, AreRoots
 use Rattle.root_changes.specs.Differing.{HaveSameOwn, DifferAt, DifferIn, RowDiffers}
 use Rattle.root_anchor.specs.Differing.{RowsDifferIn, this_segment, below_segment, behind_twin, behind_row, RootsDifferIn, this_root, below_root, behind_root}
 use Rattle.root_anchor.specs.inside.Finding.{IsTwinAt, this_twin, twin_behind, GiveRows, GivesRow, RowDiffersIn}
+use Rattle.root_anchor.specs.inside.Gaps.{IsFirstAt}
 use Rattle.root_anchor.proofs.AloneLemmas.{rolled_below}
 use Rattle.root_changes.proofs.ComparingLemmas.{shifted, front_same, rest_same, front_first, front_second}
 use Rattle.root_anchor.proofs.OneChain.{one_segment}
@@ -303,19 +304,11 @@ found_map (Err e) P Q f p = tt
 
 -- ---- the pointer to a row below a segment
 
-pub record FirstAt (types : List SegDef) (parent : ℕ) (firsts : List First) (others : List (List Node)) (j : ℕ)
-    (first : First) (other : List Node) : Type 0 where
-  pub kind : slice_get (child_types types parent) j ≡ Some first.segment
-  pub pointer : slice_get (pointers_of firsts) j ≡ Some first.at
-  pub above : parent < first.segment
-  pub direct : IsDirect types first.segment
-  pub form : row_has_form types first.segment other ≡ true
-
 pub first_at : (types : List SegDef) (parent : ℕ) (firsts : List First) (others : List (List Node)) (j : ℕ)
     (first : First) (other : List Node) → HavePlaces 0 types → types_of firsts ≡ child_types types parent
     → rows_have_form types (child_types types parent) others ≡ true → j < length firsts → j < length others
     → slice_get firsts j ≡ Some first → other ≡ get_or others j other
-    → FirstAt types parent firsts others j first other
+    → IsFirstAt types parent firsts others j first other
 first_at types parent firsts others j first other h c f b d e o =
     let kinds : List ℕ = child_types types parent in
     let kind : slice_get kinds j ≡ Some first.segment =

@@ -19,8 +19,8 @@ use Rattle.root_anchor.specs.declared.gaps.Gap.{Gap}
 use Rattle.root_anchor.specs.declared.gaps.Link.TheVariants.{FirstChild}
 use Rattle.root_anchor.specs.Chains.{AreRows, AreRoots, newest}
 use Rattle.root_anchor.specs.inside.Finding.{IsTwinAt}
-use Rattle.root_anchor.specs.inside.Gaps.{Fills, FitsGap, IsGapBelow, IsGapBehind, IsGapInRoots, HasThese}
-use Rattle.root_anchor.proofs.FindingLemmas.{FirstAt, count_of, first_at, last_has}
+use Rattle.root_anchor.specs.inside.Gaps.{HaveRow, IsRowAt, Fills, FitsGap, IsGapBelow, IsGapBehind, IsGapInRoots, HasThese}
+use Rattle.root_anchor.proofs.FindingLemmas.{count_of, first_at, last_has}
 use Rattle.root_anchor.proofs.GapLemmas.{RowFilled, RootsFilled, lone_stands, row_twins, row_behind, row_below, below_in_row, below_in_front, root_twins, root_behind, root_below}
 use Rattle.root_anchor.proofs.OneChain.{one_segment}
 use Rattle.root_anchor.proofs.TypeLemmas.{row-node, rows-count}
@@ -241,17 +241,12 @@ pub differ_within : {A : Type 0} (xs ys : List A) (k : ℕ) (x y : A) → Differ
     → (k < length xs) × (k < length ys)
 differ_within xs ys k x y d = (slice_get_within xs k x d.first, slice_get_within ys k y d.second)
 
--- the rows of a segment, of which that of a number gains one more
-pub record GainBounds (firsts : List First) (rows others : List (List Node)) (j : ℕ) : Type 0 where
-  pub in_firsts : j < length firsts
-  pub in_rows : j < length rows
-  pub in_others : j < length others
-
-pub gain_bounds : (types : List SegDef) (parent : ℕ) (firsts : List First) (rows others : List (List Node)) (j : ℕ)
+-- a row that gains one segment is there
+pub have_row : (types : List SegDef) (parent : ℕ) (firsts : List First) (rows others : List (List Node)) (j : ℕ)
     → types_of firsts ≡ child_types types parent
     → rows_have_form types (child_types types parent) others ≡ true → GainIn rows others j
-    → GainBounds firsts rows others j
-gain_bounds types parent firsts rows others j c f g =
+    → HaveRow firsts rows others j
+have_row types parent firsts rows others j c f g =
     let w = differ_within rows others j g.lower g.more g.at in
     record {
       in_firsts = omega (
@@ -264,19 +259,13 @@ gain_bounds types parent firsts rows others j c f g =
       in_others = w.1;
     }
 
-pub record RowContext (types : List SegDef) (parent : ℕ) (firsts : List First) (rows others : List (List Node)) (j : ℕ)
-    (first : First) (row other : List Node) : Type 0 where
-  pub it : FirstAt types parent firsts others j first other
-  pub at : DifferAt rows others j row other
-  pub gains : RowGains row other
-
-pub row_context : (types : List SegDef) (parent : ℕ) (firsts : List First) (rows others : List (List Node)) (j : ℕ)
+pub row_at : (types : List SegDef) (parent : ℕ) (firsts : List First) (rows others : List (List Node)) (j : ℕ)
     (first : First) (row other : List Node) → HavePlaces 0 types → types_of firsts ≡ child_types types parent
     → rows_have_form types (child_types types parent) others ≡ true → GainIn rows others j
     → slice_get firsts j ≡ Some first → row ≡ get_or rows j row → other ≡ get_or others j other
-    → RowContext types parent firsts rows others j first row other
-row_context types parent firsts rows others j first row other h c f g e p q =
-    let b = gain_bounds types parent firsts rows others j c f g in
+    → IsRowAt types parent firsts rows others j first row other
+row_at types parent firsts rows others j first row other h c f g e p q =
+    let b = have_row types parent firsts rows others j c f g in
     let d = differ_read rows others j g.lower g.more row other g.at p q in
     record {
       it = first_at types parent firsts others j first other h c f b.in_firsts b.in_others e q;

@@ -35,3 +35,4 @@ pub mod ComingLemmas
 pub mod OwnLemmas
 pub mod KeepLemmas
 pub mod KeyLemmas
+pub mod StoreLemmas

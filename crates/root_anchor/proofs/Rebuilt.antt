@@ -15,6 +15,7 @@ use Rattle.root_anchor.specs.inside.Puts.{PutsRoot}
 use Rattle.root_anchor.specs.Stored.{KeepsSequential, OthersKeep, ApartKeep}
 use Rattle.std.proofs.lemmas.List.{append-nil}
 use Rattle.root_anchor.specs.inside.Standing.{places_of, AreStanding}
+use Rattle.root_anchor.specs.inside.Storing.{IsStored}
 use Rattle.root_anchor.specs.declared.plan.Planned.{Planned}
 use Rattle.root_anchor.specs.declared.standing.Standing.{Standing}
 use Rattle.root_anchor.specs.inside.Rebuilding.{Exchanges, RootsStand, met_after, reserved, types_of, types_of_roots, ArePlaced, AreReserved, BuildsPlan, AreGivable, IsRebuildable, Rebuilds, Shares}
@@ -305,13 +306,6 @@ rebuildable shape types area anchor all rest plan roots a s k = record {
 }
 
 -- what a store leaves in an area that was whole
-pub record IsStored (shape : Shape) (types : List SegDef) (old new : List (List ℕ)) (anchor : ℕ) (roots : List Root) :
-    Type 0 where
-  pub stored : HasRoots shape types new anchor roots
-  pub others : OthersKeep shape types old new anchor
-  pub sequential : KeepsSequential shape old new
-  pub formed : IsFormed shape types new
-
 pub is-stored : (shape : Shape) (types : List SegDef) (old new : List (List ℕ)) (anchor : ℕ) (all rest : List Standing)
     (plan : List Planned) (roots : List Root) → anchor < anchor_count shape → IsFormed shape types old
     → AreStanding shape types old anchor all → Shares all plan rest

@@ -5,4 +5,5 @@ pub mod Puts
 pub mod Rebuilding
 pub mod Standing
 pub mod Stored
+pub mod Storing
 pub mod Walking

@@ -15,12 +15,11 @@ ghost use Rattle.anchor_elements.specs.Reading.{segment_of};
 ghost use Rattle.root_changes.specs.Gaining.{RootsGain};
 ghost use Rattle.root_changes.specs.Telling.{TellsRootGain};
 ghost use Rattle.root_anchor.specs.Chains.{anchor_count, root_of};
-ghost use Rattle.root_anchor.specs.Damage.{ChainFails};
 ghost use Rattle.root_anchor.specs.Formed.{HasChain, HasRoots};
-ghost use Rattle.root_anchor.specs.Gaps.{AddsOne, FewChange, SegmentsStay};
-ghost use Rattle.root_anchor.specs.inside.Gaps.{Adds, AddsBehind, AddsInFront, FitsAdded, FitsHolder, FitsGap, Refills, links_to};
-ghost use Rattle.root_anchor.specs.inside.Rebuilding.{IsDirect, Rebuilds};
+ghost use Rattle.root_anchor.specs.inside.Gaps.{Adds, AddsBehind, AddsInFront, FitsAdded, FitsHolder, FitsGap, Grows, links_to};
+ghost use Rattle.root_anchor.specs.inside.Rebuilding.{IsDirect};
 ghost use Rattle.root_anchor.specs.inside.Standing.{AreStanding};
+ghost use Rattle.root_anchor.specs.inside.Storing.{Names};
 ghost use Rattle.root_anchor.specs.Stored.{are_storable, is_storable};
 ghost use Rattle.root_anchor.specs.declared.standing.Standing.{Standing as StandingOf};
 
@@ -227,22 +226,12 @@ fn add_behind<I: Intervals>(
     requires types { AreTypes (I.size i.old) home.now.segments.now }
     requires form { are_storable home.now.segments.now others.now ≡ true }
     requires tells { TellsRootGain roots.now others.now gain }
-    ensures refills { I.told i.old → IsInOrder home.now.shape.now (I.intervals i.old) → (all : List StandingOf)
-        → first ≡ root_of home.now.shape.now (I.intervals i.old) home.now.anchor
+    ensures grows { I.told i.old → IsInOrder home.now.shape.now (I.intervals i.old)
+        → first ≡ root_of home.now.shape.now (I.intervals i.old) home.now.anchor → (all : List StandingOf)
         → AreStanding home.now.shape.now home.now.segments.now (I.intervals i.old) home.now.anchor all
         → HasRoots home.now.shape.now home.now.segments.now (I.intervals i.old) home.now.anchor roots.now
-        → IfOk result (λ added. added ≡ true
-        → Rebuilds home.now.shape.now home.now.segments.now (I.intervals i.old) (I.intervals i.new) home.now.anchor []
-        all others.now) }
-    ensures few { I.told i.old → IsInOrder home.now.shape.now (I.intervals i.old)
-        → IfOk result (λ added. added ≡ true → FewChange (I.intervals i.old) (I.intervals i.new)) }
-    ensures stay { I.told i.old → IsInOrder home.now.shape.now (I.intervals i.old)
-        → IfOk result (λ added. added ≡ true → SegmentsStay home.now.segments.now (I.intervals i.old) (I.intervals i.new)) }
-    ensures one { I.told i.old → IsInOrder home.now.shape.now (I.intervals i.old)
-        → first ≡ root_of home.now.shape.now (I.intervals i.old) home.now.anchor
-        → HasRoots home.now.shape.now home.now.segments.now (I.intervals i.old) home.now.anchor roots.now
-        → IfOk result (λ added. added ≡ true → AddsOne home.now.shape.now home.now.segments.now (I.intervals i.old)
-        (I.intervals i.new) home.now.anchor) }
+        → IfOk result (λ added. added ≡ true → Grows home.now.shape.now home.now.segments.now (I.intervals i.old)
+        (I.intervals i.new) home.now.anchor others.now) }
     ensures some { gain ≢ Gain.Not → gain ≢ Gain.New 0 → IfOk result (λ added. added ≡ true) }
     ensures same { I.told i.old → IfOk result (λ added. added ≡ false → I.intervals i.new ≡ I.intervals i.old) }
     ensures lists { I.told i.old → first ≡ root_of home.now.shape.now (I.intervals i.old) home.now.anchor
@@ -270,20 +259,11 @@ fn add_missing<I: Intervals>(
     requires anchor { home.now.anchor < anchor_count home.now.shape.now }
     requires types { AreTypes (I.size i.old) home.now.segments.now }
     requires form { are_storable home.now.segments.now others.now ≡ true }
-    ensures refills { I.told i.old → IsInOrder home.now.shape.now (I.intervals i.old) → (all : List StandingOf)
+    ensures grows { I.told i.old → IsInOrder home.now.shape.now (I.intervals i.old) → (all : List StandingOf)
         → AreStanding home.now.shape.now home.now.segments.now (I.intervals i.old) home.now.anchor all
         → HasRoots home.now.shape.now home.now.segments.now (I.intervals i.old) home.now.anchor roots.now
-        → IfOk result (λ added. added ≡ true
-        → Rebuilds home.now.shape.now home.now.segments.now (I.intervals i.old) (I.intervals i.new) home.now.anchor []
-        all others.now) }
-    ensures few { I.told i.old → IsInOrder home.now.shape.now (I.intervals i.old)
-        → IfOk result (λ added. added ≡ true → FewChange (I.intervals i.old) (I.intervals i.new)) }
-    ensures stay { I.told i.old → IsInOrder home.now.shape.now (I.intervals i.old)
-        → IfOk result (λ added. added ≡ true → SegmentsStay home.now.segments.now (I.intervals i.old) (I.intervals i.new)) }
-    ensures one { I.told i.old → IsInOrder home.now.shape.now (I.intervals i.old)
-        → HasRoots home.now.shape.now home.now.segments.now (I.intervals i.old) home.now.anchor roots.now
-        → IfOk result (λ added. added ≡ true → AddsOne home.now.shape.now home.now.segments.now (I.intervals i.old)
-        (I.intervals i.new) home.now.anchor) }
+        → IfOk result (λ added. added ≡ true → Grows home.now.shape.now home.now.segments.now (I.intervals i.old)
+        (I.intervals i.new) home.now.anchor others.now) }
     ensures some { RootsGain roots.now others.now → IfOk result (λ added. added ≡ true) }
     ensures same { I.told i.old → IfOk result (λ added. added ≡ false → I.intervals i.new ≡ I.intervals i.old) }
     ensures lists { I.told i.old
@@ -326,16 +306,9 @@ pub(crate) fn set_more<I: Intervals>(
     requires anchor { home.now.anchor < anchor_count home.now.shape.now }
     requires types { AreTypes (I.size i.old) home.now.segments.now }
     requires form { are_storable home.now.segments.now after.now ≡ true }
-    ensures refills { I.told i.old → IsInOrder home.now.shape.now (I.intervals i.old)
-        → IfOk result (λ more. more ≡ true → Refills home.now.shape.now home.now.segments.now (I.intervals i.old)
+    ensures grows { I.told i.old → IsInOrder home.now.shape.now (I.intervals i.old)
+        → IfOk result (λ more. more ≡ true → Grows home.now.shape.now home.now.segments.now (I.intervals i.old)
         (I.intervals i.new) home.now.anchor after.now) }
-    ensures few { I.told i.old → IsInOrder home.now.shape.now (I.intervals i.old)
-        → IfOk result (λ more. more ≡ true → FewChange (I.intervals i.old) (I.intervals i.new)) }
-    ensures stay { I.told i.old → IsInOrder home.now.shape.now (I.intervals i.old)
-        → IfOk result (λ more. more ≡ true → SegmentsStay home.now.segments.now (I.intervals i.old) (I.intervals i.new)) }
-    ensures one { I.told i.old → IsInOrder home.now.shape.now (I.intervals i.old)
-        → IfOk result (λ more. more ≡ true → AddsOne home.now.shape.now home.now.segments.now (I.intervals i.old)
-        (I.intervals i.new) home.now.anchor) }
     ensures stood { I.told i.old → IfOk result (λ more. more ≡ true
         → HasChain home.now.shape.now home.now.segments.now (I.intervals i.old) home.now.anchor) }
     ensures more { I.told i.old
@@ -343,13 +316,8 @@ pub(crate) fn set_more<I: Intervals>(
         → RootsGain before.now after.now → IfOk result (λ more. more ≡ true) }
     ensures gains { IfOk result (λ more. more ≡ true → RootsGain before.now after.now) }
     ensures same { I.told i.old → IfOk result (λ more. more ≡ false → I.intervals i.new ≡ I.intervals i.old) }
-    ensures lists { I.told i.old
-        → HasChain home.now.shape.now home.now.segments.now (I.intervals i.old) home.now.anchor → (ci : ℕ)
-        → result ≡ Err (AnchorFault.Damaged ci) → IsAtFault home.now.shape.now (I.intervals i.old) ci }
-    ensures damaged { I.told i.old
-        → ¬ HasChain home.now.shape.now home.now.segments.now (I.intervals i.old) home.now.anchor → (ci : ℕ)
-        → result ≡ Err (AnchorFault.Damaged ci)
-        → ChainFails home.now.shape.now home.now.segments.now (I.intervals i.old) home.now.anchor ci }
+    ensures names { I.told i.old → (ci : ℕ) → result ≡ Err (AnchorFault.Damaged ci)
+        → Names home.now.shape.now home.now.segments.now (I.intervals i.old) home.now.anchor ci }
     ensures failed { IsErrOf result AnchorFault.Failed → Rose (I.faults i.old) (I.faults i.new) }
     ensures number { I.number i.old ≤ I.number i.new }
     ensures goes_on { GoesOn I.told I.size I.faults I.keeps i.old i.new }

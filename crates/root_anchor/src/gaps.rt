@@ -4,16 +4,17 @@
 //! first child. Twins are followed up to this element, and what stands elsewhere isn't read. A root in front of all
 //! others hasn't such an element: the root anchor point leads to it.
 
-ghost use Rattle.std.specs.Prelude.{◌≡◌, ◌≢◌, ◌<◌, ◌≤◌, ℕ, List, Err, IfOk, IfSome, IsErrOf, IsSome, Some, true, false, length, slice_get};
+ghost use Rattle.std.specs.Prelude.{◌≡◌, ◌≢◌, ◌<◌, ◌≤◌, ℕ, List, Err, IfOk, IfSome, IsErrOf, IsSome, true, false, length, get_or};
 ghost use Rattle.ci_space.specs.Calls.{GoesOn};
 ghost use Rattle.fp_lists.specs.Faults.{Rose};
+ghost use Rattle.fp_model.specs.declared.definitions.SegDef.{SegDef as SegDefOf};
 ghost use Rattle.fp_model.specs.Order.{child_types};
 ghost use Rattle.fp_model.specs.WellFormed.{HavePlaces};
 ghost use Rattle.anchor_elements.specs.Elements.{AreTypes, Segment, HasSegment, has_serial, segment_length, Pointer as PointerOf};
 ghost use Rattle.anchor_elements.specs.Reading.{types_of, pointers_of, segment_of};
 ghost use Rattle.root_changes.specs.Telling.{GainIn, TellsRootGain};
 ghost use Rattle.root_anchor.specs.inside.Finding.{IsTwinAt, GiveRows, GivesRoots};
-ghost use Rattle.root_anchor.specs.inside.Gaps.{IsGapBehind, IsGapBelow, IsGapInRoots, FitsAdded, FitsGap};
+ghost use Rattle.root_anchor.specs.inside.Gaps.{HaveRow, IsRowAt, IsGapBehind, IsGapBelow, IsGapInRoots, FitsAdded, FitsGap};
 ghost use Rattle.root_anchor.specs.inside.Rebuilding.{IsDirect};
 ghost use Rattle.root_anchor.specs.Stored.{are_storable, rows_have_form};
 ghost use Rattle.root_anchor.specs.inside.Walking.{IsLook};
@@ -108,12 +109,29 @@ fn gap_behind<'a, I: Intervals>(
     })
 }
 
-/// The pointer to the first child of a child type, by its place.
-fn first_of(said: &Said, number: usize) -> First
-    requires { number < length said.now.firsts.items }
-    ensures { slice_get said.now.firsts.items number ≡ Some result }
+/// The pointer to the first child of a child type, by its place, and the row that it leads to, as it is and as it is to
+/// be.
+fn row_of<'a>(
+    said: &Said,
+    number: usize,
+    rows: &'a [List<Node>],
+    others: &'a [List<Node>],
+) -> (First, &'a List<Node>, &'a List<Node>)
+    requires { HaveRow said.now.firsts.items rows.now others.now number }
+    ensures { (types : List SegDefOf) (parent : ℕ) → HavePlaces 0 types
+        → types_of said.now.firsts.items ≡ child_types types parent
+        → rows_have_form types (child_types types parent) others.now ≡ true → GainIn rows.now others.now number
+        → IsRowAt types parent said.now.firsts.items rows.now others.now number result.0 result.1.now result.2.now }
 {
-    said.firsts[number]
+    (said.firsts[number], &rows[number], &others[number])
+}
+
+/// The segment of a number in a row.
+fn segment_at(row: &List<Node>, number: usize) -> &Node
+    requires { number < length row.now }
+    ensures { result.now ≡ get_or row.now number result.now }
+{
+    &row.as_slice()[number]
 }
 
 /// The gap in front of the first child of a number of a segment.
@@ -177,12 +195,10 @@ fn gap_below<'a, I: Intervals>(
     ensures look { IsLook I.told I.intervals I.number I.size I.faults I.keeps i.old i.new }
 {
     let home = parent.at.0;
-    let first = first_of(&parent.said, number);
-    let row = &rows[number];
-    let other = &others[number];
+    let (first, row, other) = row_of(&parent.said, number, rows, others);
     match gain_of_row(row, other) {
         Gain::New(place) => {
-            let node = &other.as_slice()[place];
+            let node = segment_at(other, place);
             if place == 0 {
                 return Ok(Some(gap_in_front(segment, parent, number, first, &node.bytes)));
             }
@@ -201,8 +217,8 @@ fn gap_below<'a, I: Intervals>(
         }
         Gain::Within(place, deeper) => {
             let twin = twin_at(alloc, i, segments, first.segment, home, first.at, place)?;
-            let node = &row.as_slice()[place];
-            let more = &other.as_slice()[place];
+            let node = segment_at(row, place);
+            let more = segment_at(other, place);
             gap_below(
                 alloc,
                 i,

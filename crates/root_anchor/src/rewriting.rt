@@ -16,6 +16,7 @@ ghost use Rattle.root_changes.specs.Differing.{RootsDiffer};
 ghost use Rattle.root_changes.specs.Gaining.{RootsGain};
 ghost use Rattle.root_anchor.specs.Differing.{ChangesAlone};
 ghost use Rattle.root_anchor.specs.inside.Finding.{FitsType, says_of};
+ghost use Rattle.root_anchor.specs.inside.Storing.{Names, Rewrites};
 ghost use Rattle.root_anchor.specs.Formed.{IsFormed, HasChain, HasRoots, NewAreOwn};
 ghost use Rattle.root_anchor.specs.Gaps.{AddsOne, FewChange, SegmentsStay};
 ghost use Rattle.root_anchor.specs.Keeping.{KeepsElements};
@@ -113,67 +114,13 @@ fn rewrite_held<I: Intervals>(
     requires anchor { anchor < anchor_count shape.now }
     requires types { AreTypes (I.size i.old) segments.now }
     requires roots { are_storable segments.now after.now ≡ true }
-
-    // Where the anchor has the roots `before`: it has the roots `after` then. All others keep theirs, and a formed area
-    // is formed again.
-    ensures stored { I.told i.old → HasRoots shape.now segments.now (I.intervals i.old) anchor before.now
-        → IsFormed shape.now segments.now (I.intervals i.old)
-        → OnOk result (HasRoots shape.now segments.now (I.intervals i.new) anchor after.now) }
-    ensures others { I.told i.old → HasRoots shape.now segments.now (I.intervals i.old) anchor before.now
-        → IsFormed shape.now segments.now (I.intervals i.old)
-        → OnOk result (OthersKeep shape.now segments.now (I.intervals i.old) (I.intervals i.new) anchor) }
-    ensures apart { I.told i.old → HasRoots shape.now segments.now (I.intervals i.old) anchor before.now
-        → IsInOrder shape.now (I.intervals i.old)
-        → OnOk result (ApartKeep shape.now segments.now (I.intervals i.old) (I.intervals i.new) anchor) }
-    ensures own { I.told i.old → HasRoots shape.now segments.now (I.intervals i.old) anchor before.now
-        → IsInOrder shape.now (I.intervals i.old)
-        → OnOk result (NewAreOwn shape.now segments.now (I.intervals i.old) (I.intervals i.new) anchor) }
-    ensures formed { I.told i.old → HasRoots shape.now segments.now (I.intervals i.old) anchor before.now
-        → IsFormed shape.now segments.now (I.intervals i.old)
-        → OnOk result (IsFormed shape.now segments.now (I.intervals i.new)) }
-
-    // And where no segment comes or goes, each stays in its element.
-    ensures keep { I.told i.old → HasRoots shape.now segments.now (I.intervals i.old) anchor before.now
-        → IsInOrder shape.now (I.intervals i.old) → ¬ RootsGain before.now after.now
-        → OnOk result (KeepsElements shape.now segments.now (I.intervals i.old) (I.intervals i.new) anchor after.now) }
-
-    // And where the lists differ in one segment, just its element changes, and nothing is damaged.
-    ensures alone { I.told i.old → HasRoots shape.now segments.now (I.intervals i.old) anchor before.now
-        → RootsDiffer before.now after.now
-        → OnOk result (ChangesAlone shape.now segments.now (I.intervals i.old) (I.intervals i.new) anchor before.now
-        after.now) }
+    ensures rewrites { I.told i.old → OnOk result (Rewrites shape.now segments.now (I.intervals i.old)
+        (I.intervals i.new) anchor before.now after.now) }
+    ensures names { I.told i.old → (ci : ℕ) → result ≡ Err (AnchorFault.Damaged ci)
+        → Names shape.now segments.now (I.intervals i.old) anchor ci }
     ensures alone_sound { I.told i.old → HasRoots shape.now segments.now (I.intervals i.old) anchor before.now
         → RootsDiffer before.now after.now → (ci : ℕ) → result ≢ Err (AnchorFault.Damaged ci) }
-
-    // And where the new list has one segment more, at most four intervals change, and each segment stays in its
-    // element.
-    ensures few { I.told i.old → HasRoots shape.now segments.now (I.intervals i.old) anchor before.now
-        → IsInOrder shape.now (I.intervals i.old) → RootsGain before.now after.now
-        → OnOk result (FewChange (I.intervals i.old) (I.intervals i.new)) }
-    ensures stay { I.told i.old → HasRoots shape.now segments.now (I.intervals i.old) anchor before.now
-        → IsInOrder shape.now (I.intervals i.old) → RootsGain before.now after.now
-        → OnOk result (SegmentsStay segments.now (I.intervals i.old) (I.intervals i.new)) }
-    ensures one { I.told i.old → HasRoots shape.now segments.now (I.intervals i.old) anchor before.now
-        → IsInOrder shape.now (I.intervals i.old) → RootsGain before.now after.now
-        → OnOk result (AddsOne shape.now segments.now (I.intervals i.old) (I.intervals i.new) anchor) }
-
-    // Whatever roots it has. At `Ok` its chain stood, or an element changed alone.
-    ensures sequential { I.told i.old → IsFormed shape.now segments.now (I.intervals i.old)
-        → OnOk result (KeepsSequential shape.now (I.intervals i.old) (I.intervals i.new)) }
-    ensures sound { I.told i.old → IsInOrder shape.now (I.intervals i.old)
-        → HasChain shape.now segments.now (I.intervals i.old) anchor → (ci : ℕ)
-        → result ≢ Err (AnchorFault.Damaged ci) }
-    ensures damaged { I.told i.old → ¬ HasChain shape.now segments.now (I.intervals i.old) anchor → (ci : ℕ)
-        → result ≡ Err (AnchorFault.Damaged ci) → ChainFails shape.now segments.now (I.intervals i.old) anchor ci }
-    ensures lists { I.told i.old → HasChain shape.now segments.now (I.intervals i.old) anchor → (ci : ℕ)
-        → result ≡ Err (AnchorFault.Damaged ci) → ListsFail shape.now segments.now (I.intervals i.old) anchor ci }
-    ensures stood { I.told i.old → OnOk result (HasChain shape.now segments.now (I.intervals i.old) anchor
-        ⊎ ChangesAlone shape.now segments.now (I.intervals i.old) (I.intervals i.new) anchor before.now after.now) }
-
-    // It fails only with what holds the intervals.
     ensures failed { IsErrOf result AnchorFault.Failed → Rose (I.faults i.old) (I.faults i.new) }
-
-    // What stays, whatever the answer is.
     ensures number { I.number i.old ≤ I.number i.new }
     ensures goes_on { GoesOn I.told I.size I.faults I.keeps i.old i.new }
 {
@@ -201,6 +148,50 @@ fn are_same(roots: &List<Root>, others: &List<Root>) -> bool
         compare_roots(roots.as_slice(), others.as_slice()),
         Difference::Nowhere
     )
+}
+
+/// Gives an anchor roots in the place of those that it has: where the lists aren't the same, through intervals that are
+/// held, and those that changed are put at the end.
+fn rewrite_and_put<I: Intervals>(
+    alloc: Global,
+    i: &mut I,
+    shape: &Shape,
+    segments: &List<SegDef>,
+    anchor: u32,
+    before: &List<Root>,
+    after: &List<Root>,
+) -> Result<(), AnchorFault>
+    requires anchor { anchor < anchor_count shape.now }
+    requires types { AreTypes (I.size i.old) segments.now }
+    requires roots { are_storable segments.now after.now ≡ true }
+    ensures rewrites { I.told i.old → OnOk result (Rewrites shape.now segments.now (I.intervals i.old)
+        (I.intervals i.new) anchor before.now after.now) }
+    ensures names { I.told i.old → (ci : ℕ) → result ≡ Err (AnchorFault.Damaged ci)
+        → Names shape.now segments.now (I.intervals i.old) anchor ci }
+    ensures alone_sound { I.told i.old → HasRoots shape.now segments.now (I.intervals i.old) anchor before.now
+        → RootsDiffer before.now after.now → (ci : ℕ) → result ≢ Err (AnchorFault.Damaged ci) }
+    ensures done { before.now ≡ after.now → IsOk result }
+    ensures same { before.now ≡ after.now → i.new ≡ i.old }
+    ensures failed { IsErrOf result AnchorFault.Failed → Rose (I.faults i.old) (I.faults i.new) }
+    ensures number { I.number i.old ≤ I.number i.new }
+    ensures goes_on { GoesOn I.told I.size I.faults I.keeps i.old i.new }
+{
+    if are_same(before, after) {
+        return Ok(());
+    }
+    let Begun { size, read } = begin(alloc, i, shape, anchor)?;
+    let mut held = Held::new(alloc, i, size, read);
+    let rewritten = rewrite_held(alloc, &mut held, shape, segments, anchor, before, after);
+    let Held {
+        alloc: _,
+        under,
+        size: _,
+        read: _,
+        changed,
+    } = held;
+    let result = settle(under, changed, rewritten);
+    rest(under);
+    result
 }
 
 /// Gives an anchor roots in the place of those that it has, as `store` does. Where the two lists differ in one
@@ -295,20 +286,5 @@ pub fn rewrite<I: Intervals>(
     ensures number { I.number i.old ≤ I.number i.new }
     ensures goes_on { GoesOn I.told I.size I.faults I.keeps i.old i.new }
 {
-    if are_same(before, after) {
-        return Ok(());
-    }
-    let Begun { size, read } = begin(alloc, i, shape, anchor)?;
-    let mut held = Held::new(alloc, i, size, read);
-    let rewritten = rewrite_held(alloc, &mut held, shape, segments, anchor, before, after);
-    let Held {
-        alloc: _,
-        under,
-        size: _,
-        read: _,
-        changed,
-    } = held;
-    let result = settle(under, changed, rewritten);
-    rest(under);
-    result
+    rewrite_and_put(alloc, i, shape, segments, anchor, before, after)
 }

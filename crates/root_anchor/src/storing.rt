@@ -16,6 +16,7 @@ ghost use Rattle.root_anchor.specs.Keeping.{KeepsElements};
 ghost use Rattle.anchor_elements.specs.Elements.{AreTypes};
 ghost use Rattle.root_anchor.specs.Stored.{are_storable, ApartKeep, OthersKeep, KeepsSequential};
 ghost use Rattle.root_anchor.specs.inside.Standing.{places_of};
+ghost use Rattle.root_anchor.specs.inside.Storing.{Names, Stores};
 ghost use Rattle.root_anchor.specs.inside.Rebuilding.{ArePlaced, Exchanges, AreGivable, IsRebuildable, Rebuilds, met_after, reserved, types_of, types_of_roots};
 
 use crate::building::{Home, build_roots, fault_of};
@@ -114,42 +115,11 @@ pub(crate) fn store_held<I: Intervals>(
     requires anchor { anchor < anchor_count shape.now }
     requires types { AreTypes (I.size i.old) segments.now }
     requires roots { are_storable segments.now roots.now ≡ true }
-
-    // In a formed area this anchor has these roots, all others keep theirs, and the area is formed again. In any area
-    // in order each anchor keeps its roots that shares no element with this one, new elements are in the anchor's own
-    // unit of work, and where no segment comes or goes, each stays in its element.
-    ensures stored { I.told i.old → IsFormed shape.now segments.now (I.intervals i.old)
-        → OnOk result (HasRoots shape.now segments.now (I.intervals i.new) anchor roots.now) }
-    ensures others { I.told i.old → IsFormed shape.now segments.now (I.intervals i.old)
-        → OnOk result (OthersKeep shape.now segments.now (I.intervals i.old) (I.intervals i.new) anchor) }
-    ensures apart { I.told i.old → IsInOrder shape.now (I.intervals i.old)
-        → OnOk result (ApartKeep shape.now segments.now (I.intervals i.old) (I.intervals i.new) anchor) }
-    ensures own { I.told i.old → IsInOrder shape.now (I.intervals i.old)
-        → OnOk result (NewAreOwn shape.now segments.now (I.intervals i.old) (I.intervals i.new) anchor) }
-    ensures keep { I.told i.old → IsInOrder shape.now (I.intervals i.old)
-        → OnOk result (KeepsElements shape.now segments.now (I.intervals i.old) (I.intervals i.new) anchor roots.now) }
-    ensures sequential { I.told i.old → IsFormed shape.now segments.now (I.intervals i.old)
-        → OnOk result (KeepsSequential shape.now (I.intervals i.old) (I.intervals i.new)) }
-    ensures formed { I.told i.old → IsFormed shape.now segments.now (I.intervals i.old)
-        → OnOk result (IsFormed shape.now segments.now (I.intervals i.new)) }
-
-    // Where the area is in order and the anchor's chain stands, nothing is damaged.
-    ensures sound { I.told i.old → IsInOrder shape.now (I.intervals i.old)
-        → HasChain shape.now segments.now (I.intervals i.old) anchor → (ci : ℕ)
-        → result ≢ Err (AnchorFault.Damaged ci) }
-
-    // Where its chain is broken, the interval that is damaged is named, and `Ok` doesn't come. Where it stands, the one
-    // is named that is at fault in the overflow lists, as they are or as they become while the anchor is stored.
-    ensures damaged { I.told i.old → ¬ HasChain shape.now segments.now (I.intervals i.old) anchor → (ci : ℕ)
-        → result ≡ Err (AnchorFault.Damaged ci) → ChainFails shape.now segments.now (I.intervals i.old) anchor ci }
-    ensures lists { I.told i.old → HasChain shape.now segments.now (I.intervals i.old) anchor → (ci : ℕ)
-        → result ≡ Err (AnchorFault.Damaged ci) → ListsFail shape.now segments.now (I.intervals i.old) anchor ci }
-    ensures stood { I.told i.old → OnOk result (HasChain shape.now segments.now (I.intervals i.old) anchor) }
-
-    // It fails only with what holds the intervals.
+    ensures stores { I.told i.old → OnOk result (Stores shape.now segments.now (I.intervals i.old) (I.intervals i.new)
+        anchor roots.now) }
+    ensures names { I.told i.old → (ci : ℕ) → result ≡ Err (AnchorFault.Damaged ci)
+        → Names shape.now segments.now (I.intervals i.old) anchor ci }
     ensures failed { IsErrOf result AnchorFault.Failed → Rose (I.faults i.old) (I.faults i.new) }
-
-    // What stays, whatever the answer is.
     ensures number { I.number i.old ≤ I.number i.new }
     ensures goes_on { GoesOn I.told I.size I.faults I.keeps i.old i.new }
 {
@@ -161,6 +131,41 @@ pub(crate) fn store_held<I: Intervals>(
         anchor,
     };
     rebuild(alloc, i, &home, &mut plan, standing.as_slice(), roots)
+}
+
+/// Gives an anchor these roots: through intervals that are held, and those that changed are put at the end.
+fn store_and_put<I: Intervals>(
+    alloc: Global,
+    i: &mut I,
+    shape: &Shape,
+    segments: &List<SegDef>,
+    anchor: u32,
+    roots: &List<Root>,
+) -> Result<(), AnchorFault>
+    requires anchor { anchor < anchor_count shape.now }
+    requires types { AreTypes (I.size i.old) segments.now }
+    requires roots { are_storable segments.now roots.now ≡ true }
+    ensures stores { I.told i.old → OnOk result (Stores shape.now segments.now (I.intervals i.old) (I.intervals i.new)
+        anchor roots.now) }
+    ensures names { I.told i.old → (ci : ℕ) → result ≡ Err (AnchorFault.Damaged ci)
+        → Names shape.now segments.now (I.intervals i.old) anchor ci }
+    ensures failed { IsErrOf result AnchorFault.Failed → Rose (I.faults i.old) (I.faults i.new) }
+    ensures number { I.number i.old ≤ I.number i.new }
+    ensures goes_on { GoesOn I.told I.size I.faults I.keeps i.old i.new }
+{
+    let Begun { size, read } = begin(alloc, i, shape, anchor)?;
+    let mut held = Held::new(alloc, i, size, read);
+    let stored = store_held(alloc, &mut held, shape, segments, anchor, roots);
+    let Held {
+        alloc: _,
+        under,
+        size: _,
+        read: _,
+        changed,
+    } = held;
+    let result = settle(under, changed, stored);
+    rest(under);
+    result
 }
 
 /// Gives an anchor these roots, in this order: `load` gives just them afterwards. A root's sequential list is its
@@ -222,17 +227,5 @@ pub fn store<I: Intervals>(
     ensures number { I.number i.old ≤ I.number i.new }
     ensures goes_on { GoesOn I.told I.size I.faults I.keeps i.old i.new }
 {
-    let Begun { size, read } = begin(alloc, i, shape, anchor)?;
-    let mut held = Held::new(alloc, i, size, read);
-    let stored = store_held(alloc, &mut held, shape, segments, anchor, roots);
-    let Held {
-        alloc: _,
-        under,
-        size: _,
-        read: _,
-        changed,
-    } = held;
-    let result = settle(under, changed, stored);
-    rest(under);
-    result
+    store_and_put(alloc, i, shape, segments, anchor, roots)
 }

@@ -1,5 +1,5 @@
 -- What bodies and proofs need of Gaps, beside what contracts say.
-use Rattle.std.specs.Prelude.{◌≡◌, ◌≢◌, ◌⊎◌, ℕ, ◌+◌, ◌≤◌, List, [], ◌∷◌, length, set, replicate, Contains, false}
+use Rattle.std.specs.Prelude.{◌≡◌, ◌≢◌, ◌⊎◌, ℕ, ◌+◌, ◌<◌, ◌≤◌, List, [], ◌∷◌, length, slice_get, Some, set, replicate, Contains, true, false}
 use Rattle.ci_space.specs.declared.intervals.Shape.{Shape}
 use Rattle.ci_overflow.specs.Lists.{bytes_at, IsInOrder}
 use Rattle.ci_overflow.specs.Places.{first_base, uow_of}
@@ -10,7 +10,10 @@ use Rattle.fp_model.specs.declared.database.Root.{Root}
 use Rattle.fp_model.specs.Order.{child_types}
 use Rattle.anchor_elements.specs.Elements.{Pointer, nothing, Segment, HasSegment, content_length, segment_length, has_serial}
 use Rattle.anchor_elements.specs.Puts.{PutsSegment}
-use Rattle.anchor_elements.specs.Reading.{segment_of}
+use Rattle.anchor_elements.specs.Reading.{segment_of, pointers_of}
+use Rattle.anchor_elements.specs.declared.element.First.{First}
+use Rattle.root_changes.specs.Differing.{DifferAt}
+use Rattle.root_changes.specs.Gaining.{RowGains}
 use Rattle.root_anchor.specs.declared.gaps.Link.{Link}
 use Rattle.root_anchor.specs.declared.gaps.Link.TheVariants.{Next, FirstChild}
 use Rattle.root_anchor.specs.declared.gaps.Holder.{Holder}
@@ -18,10 +21,12 @@ use Rattle.root_anchor.specs.declared.gaps.Added.{Added}
 use Rattle.root_anchor.specs.declared.gaps.Gap.{Gap}
 use Rattle.root_anchor.specs.declared.standing.Standing.{Standing}
 use Rattle.root_anchor.specs.Chains.{AreRows, AreRoots, newest}
+use Rattle.root_anchor.specs.Gaps.{AddsOne, FewChange, SegmentsStay}
 use Rattle.root_anchor.specs.inside.Finding.{IsTwinAt}
 use Rattle.root_anchor.specs.inside.Puts.{PutsRoot}
 use Rattle.root_anchor.specs.inside.Rebuilding.{Exchanges, IsDirect, Rebuilds}
 use Rattle.root_anchor.specs.inside.Standing.{AreStanding}
+use Rattle.root_anchor.specs.inside.Stored.{row_has_form}
 
 -- ---- what changes where a segment comes
 
@@ -32,6 +37,38 @@ pub record Refills (shape : Shape) (types : List SegDef) (old new : List (List �
   pub all : List Standing
   pub standing : AreStanding shape types old anchor all
   pub rebuilds : Rebuilds shape types old new anchor [] all roots
+
+-- One segment more has come to an anchor, which has these roots then.
+pub record Grows (shape : Shape) (types : List SegDef) (old new : List (List ℕ)) (anchor : ℕ) (roots : List Root) :
+    Type 0 where
+  pub refills : Refills shape types old new anchor roots
+  pub few : FewChange old new
+  pub stay : SegmentsStay types old new
+  pub one : AddsOne shape types old new anchor
+
+-- ---- a row that gains one segment
+
+-- the first child of a child type, by its place, and the row of that type as it is to be
+pub record IsFirstAt (types : List SegDef) (parent : ℕ) (firsts : List First) (others : List (List Node)) (j : ℕ)
+    (first : First) (other : List Node) : Type 0 where
+  pub kind : slice_get (child_types types parent) j ≡ Some first.segment
+  pub pointer : slice_get (pointers_of firsts) j ≡ Some first.at
+  pub above : parent < first.segment
+  pub direct : IsDirect types first.segment
+  pub form : row_has_form types first.segment other ≡ true
+
+-- there is a row of this number
+pub record HaveRow (firsts : List First) (rows others : List (List Node)) (number : ℕ) : Type 0 where
+  pub in_firsts : number < length firsts
+  pub in_rows : number < length rows
+  pub in_others : number < length others
+
+-- the row of this number alone changes: one segment more comes to it
+pub record IsRowAt (types : List SegDef) (parent : ℕ) (firsts : List First) (rows others : List (List Node))
+    (number : ℕ) (first : First) (row other : List Node) : Type 0 where
+  pub it : IsFirstAt types parent firsts others number first other
+  pub at : DifferAt rows others number row other
+  pub gains : RowGains row other
 
 -- ---- a gap
 

@@ -33,62 +33,26 @@ returns-in_err-fill-clause-lists g c = λ told e has ci x.
     subst (λ x. IsAtFault shape x ci) same
     (c.in_err-fill.ensures.lists told1 there ci (cc (p.1, p.2, c.in_err-fill.was)))
 
-pub returns-clause-refills : goal.returns-clause-refills
-returns-clause-refills g c = λ told o all e a has yes.
+pub returns-clause-grows : goal.returns-clause-grows
+returns-clause-grows g c = λ told o e all a has yes.
     let shape = c.args.home.now.shape.now in
     let types = c.args.home.now.segments.now in
     let anchor = c.args.home.now.anchor in
-    let told1 = c.gap_in_roots.ensures.look.goes_on.tells told in
     let same = c.gap_in_roots.ensures.look.same told in
     let gap = c.in-Some.gap in
     let it = found_there _ gap _ c.in-Some.is (c.in_ok-gap.ensures.gap told) in
     let there = subst (λ x. HasSegment types x gap.holder.segment gap.holder.at (segment_of gap.holder.said)) (sym same)
     it.there in
     let adds = subst (λ x. AddsBehind shape types x (g.I.Intervals.intervals c.fill.new.i) anchor gap) same
-    (c.in_ok-fill.ensures.filled told1 there) in
-    behind_rebuilds shape types _ _ anchor all c.args.first c.args.roots.now c.args.others.now gap e a has it adds
-
-pub returns-clause-few : goal.returns-clause-few
-returns-clause-few g c = λ told o yes.
-    let shape = c.args.home.now.shape.now in
-    let types = c.args.home.now.segments.now in
-    let anchor = c.args.home.now.anchor in
-    let told1 = c.gap_in_roots.ensures.look.goes_on.tells told in
-    let same = c.gap_in_roots.ensures.look.same told in
-    let gap = c.in-Some.gap in
-    let it = found_there _ gap _ c.in-Some.is (c.in_ok-gap.ensures.gap told) in
-    let there = subst (λ x. HasSegment types x gap.holder.segment gap.holder.at (segment_of gap.holder.said)) (sym same)
-    it.there in
-    behind_few shape types _ _ anchor gap
-    (subst (λ x. AddsBehind shape types x (g.I.Intervals.intervals c.fill.new.i) anchor gap) same
-    (c.in_ok-fill.ensures.filled told1 there))
-
-pub returns-clause-stay : goal.returns-clause-stay
-returns-clause-stay g c = λ told o yes.
-    let shape = c.args.home.now.shape.now in
-    let types = c.args.home.now.segments.now in
-    let anchor = c.args.home.now.anchor in
-    let told1 = c.gap_in_roots.ensures.look.goes_on.tells told in
-    let same = c.gap_in_roots.ensures.look.same told in
-    let gap = c.in-Some.gap in
-    let it = found_there _ gap _ c.in-Some.is (c.in_ok-gap.ensures.gap told) in
-    let there = subst (λ x. HasSegment types x gap.holder.segment gap.holder.at (segment_of gap.holder.said)) (sym same)
-    it.there in
-    behind_stay shape types _ _ anchor gap it.there
-    (subst (λ x. AddsBehind shape types x (g.I.Intervals.intervals c.fill.new.i) anchor gap) same
-    (c.in_ok-fill.ensures.filled told1 there))
-
-pub returns-clause-one : goal.returns-clause-one
-returns-clause-one g c = λ told o e has yes.
-    let shape = c.args.home.now.shape.now in
-    let types = c.args.home.now.segments.now in
-    let anchor = c.args.home.now.anchor in
-    let told1 = c.gap_in_roots.ensures.look.goes_on.tells told in
-    let same = c.gap_in_roots.ensures.look.same told in
-    let gap = c.in-Some.gap in
-    let it = found_there _ gap _ c.in-Some.is (c.in_ok-gap.ensures.gap told) in
-    let there = subst (λ x. HasSegment types x gap.holder.segment gap.holder.at (segment_of gap.holder.said)) (sym same)
-    it.there in
-    behind_one shape types _ _ anchor c.args.first c.args.roots.now c.args.others.now gap e has it o
-    (subst (λ x. AddsBehind shape types x (g.I.Intervals.intervals c.fill.new.i) anchor gap) same
-    (c.in_ok-fill.ensures.filled told1 there))
+    (c.in_ok-fill.ensures.filled (c.gap_in_roots.ensures.look.goes_on.tells told) there) in
+    record {
+      refills = record {
+        all = all;
+        standing = a;
+        rebuilds = behind_rebuilds shape types _ _ anchor all c.args.first c.args.roots.now c.args.others.now gap e a
+            has it adds;
+      };
+      few = behind_few shape types _ _ anchor gap adds;
+      stay = behind_stay shape types _ _ anchor gap it.there adds;
+      one = behind_one shape types _ _ anchor c.args.first c.args.roots.now c.args.others.now gap e has it o adds;
+    }
