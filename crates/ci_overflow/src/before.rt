@@ -131,8 +131,8 @@ pub fn one_of_list<I: Intervals>(
     ci: u64,
 ) -> Result<Option<Numbered>, SpaceFault>
     ensures in_list { I.told i.old → IfOk result (λ one. IfSome one (IsInList shape.now (I.intervals i.old) uow)) }
-    ensures owned { I.told i.old → IfOk result (λ one. IfSome one (λ one. IsOwned shape.now (I.intervals i.old) (uow + 1)
-        one.ci)) }
+    ensures owned { I.told i.old → IfOk result (λ one. IfSome one
+        (λ one. IsOwned shape.now (I.intervals i.old) (uow + 1) one.ci)) }
     ensures is { IfOk result (λ one. IfSome one (λ one. one.ci ≡ number)) }
     ensures apart { IfOk result (λ one. IfSome one (λ one. one.ci ≢ ci)) }
     ensures some { IfOk result (λ one. IfSome one (λ one. 0 < one.ci)) }

@@ -1,15 +1,16 @@
 use Rattle.std.proofs.Common.{◌≡◌, ◌≢◌, ◌<◌, inl, length, sym, ap, ◌∙◌, arith}
-use Rattle.std.proofs.lemmas.Result.{err_from_is_err_and}
+use Rattle.std.proofs.lemmas.Result.{IfOk-from_err, err_from_is_err_and}
 use Rattle.ci_space.specs.Interval.{kind_of}
 use Rattle.ci_overflow.specs.Places.{first_base}
 use Rattle.ci_overflow.specs.Lists.{bytes_at, link_of}
 use Rattle.ci_overflow.specs.Faults.{IsAtFault}
 use Rattle.ci_overflow.specs.Moves.{IsInList}
-use Rattle.ci_overflow.proofs.Going.{named_fault}
+use Rattle.ci_overflow.proofs.Going.{named_fault, rose_then}
 use Rattle.ci_overflow.proofs.Joins.{link_is_number}
 use Rattle.ci_overflow.proofs.Tries.{option_some, option_none}
 use Rattle.ci_overflow.proofs.Befores.{leads-to, is-before, unlisted-fault}
 use Rattle.ci_overflow.proofs.before.find_before.Goals as goal
+use Rattle.ci_space.proofs.GoingLemmas.{goes_on_joined}
 use Rattle.plain_laws.proofs.Results.{same_fault}
 
 pub returns-in_err-base-clause-damaged : goal.returns-in_err-base-clause-damaged
@@ -106,3 +107,141 @@ returns-in-None-clause-damaged g c = λ t b u w l n e.
     named_fault (IsAtFault c.args.shape.now area) c.args.ci n e
     (unlisted-fault _ _ c.args.uow c.args.ci _ first ends u
     (record { from = c.requires.independent; below = below; owned = w }))
+
+-- ---- what each exit says besides
+
+pub returns-in_err-base-clause-before : goal.returns-in_err-base-clause-before
+returns-in_err-base-clause-before g c = λ t. IfOk-from_err c.from_residual.result _ c.from_residual.ensures.0
+
+pub returns-in_err-base-clause-below : goal.returns-in_err-base-clause-below
+returns-in_err-base-clause-below g c = IfOk-from_err c.from_residual.result _ c.from_residual.ensures.0
+
+pub returns-in_err-base-clause-interval : goal.returns-in_err-base-clause-interval
+returns-in_err-base-clause-interval g c = IfOk-from_err c.from_residual.result _ c.from_residual.ensures.0
+
+pub returns-in_err-base-clause-kind : goal.returns-in_err-base-clause-kind
+returns-in_err-base-clause-kind g c = IfOk-from_err c.from_residual.result _ c.from_residual.ensures.0
+
+pub returns-in_err-base-clause-size : goal.returns-in_err-base-clause-size
+returns-in_err-base-clause-size g c = IfOk-from_err c.from_residual.result _ c.from_residual.ensures.0
+
+pub returns-in_err-base-clause-failed : goal.returns-in_err-base-clause-failed
+returns-in_err-base-clause-failed g c = rose_then c.from_residual.result _ _ _ _ c.from_residual.ensures.1 (omega arith)
+    c.in_err-base.ensures.failed
+
+pub returns-in_err-before-clause-before : goal.returns-in_err-before-clause-before
+returns-in_err-before-clause-before g c = λ t. IfOk-from_err c.from_residual-in_err-before.result _
+    c.from_residual-in_err-before.ensures.0
+
+pub returns-in_err-before-clause-below : goal.returns-in_err-before-clause-below
+returns-in_err-before-clause-below g c = IfOk-from_err c.from_residual-in_err-before.result _
+    c.from_residual-in_err-before.ensures.0
+
+pub returns-in_err-before-clause-interval : goal.returns-in_err-before-clause-interval
+returns-in_err-before-clause-interval g c = IfOk-from_err c.from_residual-in_err-before.result _
+    c.from_residual-in_err-before.ensures.0
+
+pub returns-in_err-before-clause-kind : goal.returns-in_err-before-clause-kind
+returns-in_err-before-clause-kind g c = IfOk-from_err c.from_residual-in_err-before.result _
+    c.from_residual-in_err-before.ensures.0
+
+pub returns-in_err-before-clause-size : goal.returns-in_err-before-clause-size
+returns-in_err-before-clause-size g c = IfOk-from_err c.from_residual-in_err-before.result _
+    c.from_residual-in_err-before.ensures.0
+
+pub returns-in_err-before-clause-failed : goal.returns-in_err-before-clause-failed
+returns-in_err-before-clause-failed g c = rose_then c.from_residual-in_err-before.result _ _ _ _
+    c.from_residual-in_err-before.ensures.1 c.first_of.ensures.goes_on.later
+    c.in_err-before.ensures.failed
+
+pub returns-in_err-before-clause-same : goal.returns-in_err-before-clause-same
+returns-in_err-before-clause-same g c = λ t.
+    c.find_seen.ensures.same (c.first_of.ensures.goes_on.tells t)
+    ∙ c.first_of.ensures.same t
+
+pub returns-in_err-before-clause-number : goal.returns-in_err-before-clause-number
+returns-in_err-before-clause-number g c = c.find_seen.ensures.number ∙ c.first_of.ensures.number
+
+pub returns-in_err-before-clause-goes_on : goal.returns-in_err-before-clause-goes_on
+returns-in_err-before-clause-goes_on g c = goes_on_joined _ _ _ _ _ _ _ c.first_of.ensures.goes_on
+    c.find_seen.ensures.goes_on
+
+pub returns-in-Some-clause-same : goal.returns-in-Some-clause-same
+returns-in-Some-clause-same g c = λ t.
+    c.find_seen.ensures.same (c.first_of.ensures.goes_on.tells t)
+    ∙ c.first_of.ensures.same t
+
+pub returns-in-Some-clause-number : goal.returns-in-Some-clause-number
+returns-in-Some-clause-number g c = c.find_seen.ensures.number ∙ c.first_of.ensures.number
+
+pub returns-in-Some-clause-goes_on : goal.returns-in-Some-clause-goes_on
+returns-in-Some-clause-goes_on g c = goes_on_joined _ _ _ _ _ _ _ c.first_of.ensures.goes_on c.find_seen.ensures.goes_on
+
+pub returns-in_err-before-2-clause-before : goal.returns-in_err-before-2-clause-before
+returns-in_err-before-2-clause-before g c = λ t. IfOk-from_err c.from_residual-in_err-before-2.result _
+    c.from_residual-in_err-before-2.ensures.0
+
+pub returns-in_err-before-2-clause-below : goal.returns-in_err-before-2-clause-below
+returns-in_err-before-2-clause-below g c = IfOk-from_err c.from_residual-in_err-before-2.result _
+    c.from_residual-in_err-before-2.ensures.0
+
+pub returns-in_err-before-2-clause-interval : goal.returns-in_err-before-2-clause-interval
+returns-in_err-before-2-clause-interval g c = IfOk-from_err c.from_residual-in_err-before-2.result _
+    c.from_residual-in_err-before-2.ensures.0
+
+pub returns-in_err-before-2-clause-kind : goal.returns-in_err-before-2-clause-kind
+returns-in_err-before-2-clause-kind g c = IfOk-from_err c.from_residual-in_err-before-2.result _
+    c.from_residual-in_err-before-2.ensures.0
+
+pub returns-in_err-before-2-clause-size : goal.returns-in_err-before-2-clause-size
+returns-in_err-before-2-clause-size g c = IfOk-from_err c.from_residual-in_err-before-2.result _
+    c.from_residual-in_err-before-2.ensures.0
+
+pub returns-in_err-before-2-clause-failed : goal.returns-in_err-before-2-clause-failed
+returns-in_err-before-2-clause-failed g c = rose_then c.from_residual-in_err-before-2.result _ _ _ _
+    c.from_residual-in_err-before-2.ensures.1 (omega (
+      arith,
+      c.first_of.ensures.goes_on.later,
+      c.find_seen.ensures.goes_on.later,
+    ))
+    c.in_err-before-2.ensures.failed
+
+pub returns-in_err-before-2-clause-same : goal.returns-in_err-before-2-clause-same
+returns-in_err-before-2-clause-same g c = λ t.
+    c.walk.ensures.same (c.find_seen.ensures.goes_on.tells (c.first_of.ensures.goes_on.tells t))
+    ∙ c.find_seen.ensures.same (c.first_of.ensures.goes_on.tells t)
+    ∙ c.first_of.ensures.same t
+
+pub returns-in_err-before-2-clause-number : goal.returns-in_err-before-2-clause-number
+returns-in_err-before-2-clause-number g c = c.walk.ensures.number ∙ c.find_seen.ensures.number ∙
+    c.first_of.ensures.number
+
+pub returns-in_err-before-2-clause-goes_on : goal.returns-in_err-before-2-clause-goes_on
+returns-in_err-before-2-clause-goes_on g c = goes_on_joined _ _ _ _ _ _ _ (goes_on_joined _ _ _ _ _ _ _
+    c.first_of.ensures.goes_on c.find_seen.ensures.goes_on) c.walk.ensures.goes_on
+
+pub returns-in-Some-2-clause-same : goal.returns-in-Some-2-clause-same
+returns-in-Some-2-clause-same g c = λ t.
+    c.walk.ensures.same (c.find_seen.ensures.goes_on.tells (c.first_of.ensures.goes_on.tells t))
+    ∙ c.find_seen.ensures.same (c.first_of.ensures.goes_on.tells t)
+    ∙ c.first_of.ensures.same t
+
+pub returns-in-Some-2-clause-number : goal.returns-in-Some-2-clause-number
+returns-in-Some-2-clause-number g c = c.walk.ensures.number ∙ c.find_seen.ensures.number ∙ c.first_of.ensures.number
+
+pub returns-in-Some-2-clause-goes_on : goal.returns-in-Some-2-clause-goes_on
+returns-in-Some-2-clause-goes_on g c = goes_on_joined _ _ _ _ _ _ _ (goes_on_joined _ _ _ _ _ _ _
+    c.first_of.ensures.goes_on c.find_seen.ensures.goes_on) c.walk.ensures.goes_on
+
+pub returns-in-None-clause-same : goal.returns-in-None-clause-same
+returns-in-None-clause-same g c = λ t.
+    c.walk.ensures.same (c.find_seen.ensures.goes_on.tells (c.first_of.ensures.goes_on.tells t))
+    ∙ c.find_seen.ensures.same (c.first_of.ensures.goes_on.tells t)
+    ∙ c.first_of.ensures.same t
+
+pub returns-in-None-clause-number : goal.returns-in-None-clause-number
+returns-in-None-clause-number g c = c.walk.ensures.number ∙ c.find_seen.ensures.number ∙ c.first_of.ensures.number
+
+pub returns-in-None-clause-goes_on : goal.returns-in-None-clause-goes_on
+returns-in-None-clause-goes_on g c = goes_on_joined _ _ _ _ _ _ _ (goes_on_joined _ _ _ _ _ _ _
+    c.first_of.ensures.goes_on c.find_seen.ensures.goes_on) c.walk.ensures.goes_on

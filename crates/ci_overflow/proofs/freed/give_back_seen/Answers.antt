@@ -1,13 +1,17 @@
-use Rattle.std.proofs.Common.{◌≡◌, ◌<◌, false, true, length, sym, ap, ◌∙◌, arith}
-use Rattle.ci_space.specs.Interval.{kind_of}
+use Rattle.std.proofs.Common.{◌≡◌, ◌<◌, false, true, length, sym, ap, subst, ◌∙◌, arith}
+use Rattle.std.proofs.lemmas.Result.{IfOk-from_err}
+use Rattle.ci_space.specs.Interval.{IsUsed, kind_of}
+use Rattle.ci_space.proofs.GoingLemmas.{goes_on_joined}
+use Rattle.fp_lists.proofs.FaultLemmas.{rose_behind}
 use Rattle.ci_overflow.specs.Lists.{bytes_at}
 use Rattle.ci_overflow.specs.Freed.{BecomesEmpty}
 use Rattle.ci_overflow.proofs.FaultLemmas.{in-order-sound, keeps-kind}
 use Rattle.ci_overflow.proofs.Givings.{FreesAt, frees, given-back, order-alone, taken-alone, taken-moved, used-not_empty}
 use Rattle.ci_overflow.proofs.MoveOrders.{order-moved}
+use Rattle.ci_overflow.proofs.Going.{damaged_then, rose_then}
 use Rattle.ci_overflow.proofs.freed.give_back_seen.Goals as goal
 use Rattle.ci_overflow.proofs.freed.give_back_seen.Goals.{else-head-eq-INDEPENDENT-via-then-head-eq-INDEPENDENT+else-is_empty, else-head-eq-INDEPENDENT-via-else-head-eq-INDEPENDENT}
-use Rattle.plain_laws.proofs.Results.{on_ok_map}
+use Rattle.plain_laws.proofs.Results.{at_ok, on_ok_map}
 
 pub returns-then-is_empty-clause-takes_back : goal.returns-then-is_empty-clause-takes_back
 returns-then-is_empty-clause-takes_back g c = λ t.
@@ -83,3 +87,77 @@ returns-else-head-eq-INDEPENDENT-clause-lists g c = λ t o.
     c.free.ensures.freed c.free.ensures.others c.free.ensures.head in
     on_ok_map _ _ _ (λ p. order-alone _ _ _ _ _ _ c.free.new.self same f p o below)
     (c.write.ensures.put (c.read_used.ensures.goes_on.tells t))
+
+-- ---- what each exit says besides
+
+pub returns-in_err-interval-clause-takes_back : goal.returns-in_err-interval-clause-takes_back
+returns-in_err-interval-clause-takes_back g c = λ t. IfOk-from_err c.from_residual.result _ c.from_residual.ensures.0
+
+pub returns-in_err-interval-clause-given : goal.returns-in_err-interval-clause-given
+returns-in_err-interval-clause-given g c = λ t o. IfOk-from_err c.from_residual.result _ c.from_residual.ensures.0
+
+pub returns-in_err-interval-clause-lists : goal.returns-in_err-interval-clause-lists
+returns-in_err-interval-clause-lists g c = λ t o. IfOk-from_err c.from_residual.result _ c.from_residual.ensures.0
+
+pub returns-in_err-interval-clause-used : goal.returns-in_err-interval-clause-used
+returns-in_err-interval-clause-used g c = λ t. IfOk-from_err c.from_residual.result _ c.from_residual.ensures.0
+
+pub returns-in_err-interval-clause-unused : goal.returns-in_err-interval-clause-unused
+returns-in_err-interval-clause-unused g c = λ t u n. damaged_then c.from_residual.result _ n c.from_residual.ensures.1
+    (c.in_err-interval.ensures.named t n)
+
+pub returns-in_err-interval-clause-damaged : goal.returns-in_err-interval-clause-damaged
+returns-in_err-interval-clause-damaged g c = λ t u n. damaged_then c.from_residual.result _ n c.from_residual.ensures.1
+    (λ e. absurd (c.in_err-interval.ensures.damaged t u n e))
+
+pub returns-in_err-interval-clause-sound : goal.returns-in_err-interval-clause-sound
+returns-in_err-interval-clause-sound g c = λ t o u n. damaged_then c.from_residual.result _ n c.from_residual.ensures.1
+    (c.in_err-interval.ensures.damaged t u n)
+
+pub returns-in_err-interval-clause-failed : goal.returns-in_err-interval-clause-failed
+returns-in_err-interval-clause-failed g c = rose_then c.from_residual.result _ _ _ _ c.from_residual.ensures.1 (omega
+    arith)
+    c.in_err-interval.ensures.failed
+
+pub returns-then-is_empty-clause-used : goal.returns-then-is_empty-clause-used
+returns-then-is_empty-clause-used g c = λ t. at_ok c.move_to_free.result _
+    (subst (λ b. IsUsed b c.args.at) (c.in_ok-interval.ensures.bytes t) c.in_ok-interval.ensures.used)
+
+pub returns-then-is_empty-clause-unused : goal.returns-then-is_empty-clause-unused
+returns-then-is_empty-clause-unused g c = λ t u n e. absurd (u
+    (subst (λ b. IsUsed b c.args.at) (c.in_ok-interval.ensures.bytes t) c.in_ok-interval.ensures.used))
+
+pub returns-then-is_empty-clause-failed : goal.returns-then-is_empty-clause-failed
+returns-then-is_empty-clause-failed g c = λ e. rose_behind _ _ _ c.read_used.ensures.goes_on.later
+    (c.move_to_free.ensures.failed e)
+
+pub returns-then-is_empty-clause-number : goal.returns-then-is_empty-clause-number
+returns-then-is_empty-clause-number g c = c.move_to_free.ensures.number ∙ c.read_used.ensures.number
+
+pub returns-then-is_empty-clause-goes_on : goal.returns-then-is_empty-clause-goes_on
+returns-then-is_empty-clause-goes_on g c = goes_on_joined _ _ _ _ _ _ _ c.read_used.ensures.goes_on
+    c.move_to_free.ensures.goes_on
+
+pub returns-else-head-eq-INDEPENDENT-clause-used : goal.returns-else-head-eq-INDEPENDENT-clause-used
+returns-else-head-eq-INDEPENDENT-clause-used g c = λ t. at_ok c.write.result _
+    (subst (λ b. IsUsed b c.args.at) (c.in_ok-interval.ensures.bytes t) c.in_ok-interval.ensures.used)
+
+pub returns-else-head-eq-INDEPENDENT-clause-unused : goal.returns-else-head-eq-INDEPENDENT-clause-unused
+returns-else-head-eq-INDEPENDENT-clause-unused g c = λ t u n e. absurd (u
+    (subst (λ b. IsUsed b c.args.at) (c.in_ok-interval.ensures.bytes t) c.in_ok-interval.ensures.used))
+
+pub returns-else-head-eq-INDEPENDENT-clause-damaged : goal.returns-else-head-eq-INDEPENDENT-clause-damaged
+returns-else-head-eq-INDEPENDENT-clause-damaged g c = λ t u n e. absurd (c.write.ensures.never_damaged n e)
+
+pub returns-else-head-eq-INDEPENDENT-clause-sound : goal.returns-else-head-eq-INDEPENDENT-clause-sound
+returns-else-head-eq-INDEPENDENT-clause-sound g c = λ t o u n. c.write.ensures.never_damaged n
+
+pub returns-else-head-eq-INDEPENDENT-clause-failed : goal.returns-else-head-eq-INDEPENDENT-clause-failed
+returns-else-head-eq-INDEPENDENT-clause-failed g c = λ e. absurd (c.write.ensures.never_failed e)
+
+pub returns-else-head-eq-INDEPENDENT-clause-number : goal.returns-else-head-eq-INDEPENDENT-clause-number
+returns-else-head-eq-INDEPENDENT-clause-number g c = c.write.ensures.number ∙ c.read_used.ensures.number
+
+pub returns-else-head-eq-INDEPENDENT-clause-goes_on : goal.returns-else-head-eq-INDEPENDENT-clause-goes_on
+returns-else-head-eq-INDEPENDENT-clause-goes_on g c = goes_on_joined _ _ _ _ _ _ _ c.read_used.ensures.goes_on
+    c.write.ensures.goes_on

@@ -1,6 +1,7 @@
 use Rattle.std.proofs.Common.{◌≡◌, ◌+◌, ◌<◌, length, sym, ap, ◌∙◌, arith}
-use Rattle.std.proofs.lemmas.Result.{err_from_is_err_and}
+use Rattle.std.proofs.lemmas.Result.{IfOk-from_err, err_from_is_err_and}
 use Rattle.ci_overflow.specs.Lists.{bytes_at, owner_of}
+use Rattle.ci_overflow.proofs.Going.{failed_then, rose_then}
 use Rattle.ci_overflow.proofs.Tries.{keeps-owner}
 use Rattle.ci_overflow.proofs.Joins.{base-before}
 use Rattle.ci_overflow.proofs.Moving.{moves}
@@ -71,3 +72,73 @@ returns-clause-goes_on g c = goes_on_joined _ _ _ _ _ _ _
     (goes_on_joined _ _ _ _ _ _ _
     (goes_on_joined _ _ _ _ _ _ _ c.find_before.ensures.goes_on c.read.ensures.goes_on) c.put_link.ensures.goes_on)
     c.put_free.ensures.goes_on
+
+-- ---- what each exit says besides
+
+pub returns-in_err-uow-clause-moved : goal.returns-in_err-uow-clause-moved
+returns-in_err-uow-clause-moved g c = λ t k. IfOk-from_err c.from_residual.result _ c.from_residual.ensures.0
+
+pub returns-in_err-uow-clause-failed : goal.returns-in_err-uow-clause-failed
+returns-in_err-uow-clause-failed g c = failed_then c.from_residual.result _ c.from_residual.ensures.1
+    c.in_err-uow.ensures.never_failed
+
+pub returns-in_err-before-clause-moved : goal.returns-in_err-before-clause-moved
+returns-in_err-before-clause-moved g c = λ t k. IfOk-from_err c.from_residual-in_err-before.result _
+    c.from_residual-in_err-before.ensures.0
+
+pub returns-in_err-before-clause-failed : goal.returns-in_err-before-clause-failed
+returns-in_err-before-clause-failed g c = rose_then c.from_residual-in_err-before.result _ _ _ _
+    c.from_residual-in_err-before.ensures.1
+    (omega arith) c.in_err-before.ensures.failed
+
+pub returns-in_err-control-clause-moved : goal.returns-in_err-control-clause-moved
+returns-in_err-control-clause-moved g c = λ t k. IfOk-from_err c.from_residual-in_err-control.result _
+    c.from_residual-in_err-control.ensures.0
+
+pub returns-in_err-control-clause-failed : goal.returns-in_err-control-clause-failed
+returns-in_err-control-clause-failed g c = rose_then c.from_residual-in_err-control.result _ _ _ _
+    c.from_residual-in_err-control.ensures.1
+    c.find_before.ensures.goes_on.later c.in_err-control.ensures.failed
+
+pub returns-in_err-control-clause-number : goal.returns-in_err-control-clause-number
+returns-in_err-control-clause-number g c = c.read.ensures.number ∙ c.find_before.ensures.number
+
+pub returns-in_err-control-clause-goes_on : goal.returns-in_err-control-clause-goes_on
+returns-in_err-control-clause-goes_on g c = goes_on_joined _ _ _ _ _ _ _ c.find_before.ensures.goes_on
+    c.read.ensures.goes_on
+
+pub returns-in_err-forget-clause-moved : goal.returns-in_err-forget-clause-moved
+returns-in_err-forget-clause-moved g c = λ t k. IfOk-from_err c.from_residual-in_err-forget.result _
+    c.from_residual-in_err-forget.ensures.0
+
+pub returns-in_err-forget-clause-failed : goal.returns-in_err-forget-clause-failed
+returns-in_err-forget-clause-failed g c = failed_then c.from_residual-in_err-forget.result _
+    c.from_residual-in_err-forget.ensures.1
+    c.in_err-forget.ensures.never_failed
+
+pub returns-in_err-forget-clause-number : goal.returns-in_err-forget-clause-number
+returns-in_err-forget-clause-number g c = c.read.ensures.number ∙ c.find_before.ensures.number
+
+pub returns-in_err-forget-clause-goes_on : goal.returns-in_err-forget-clause-goes_on
+returns-in_err-forget-clause-goes_on g c = goes_on_joined _ _ _ _ _ _ _ c.find_before.ensures.goes_on
+    c.read.ensures.goes_on
+
+pub returns-in_err-put_link-clause-moved : goal.returns-in_err-put_link-clause-moved
+returns-in_err-put_link-clause-moved g c = λ t k. IfOk-from_err c.from_residual-in_err-put_link.result _
+    c.from_residual-in_err-put_link.ensures.0
+
+pub returns-in_err-put_link-clause-failed : goal.returns-in_err-put_link-clause-failed
+returns-in_err-put_link-clause-failed g c = failed_then c.from_residual-in_err-put_link.result _
+    c.from_residual-in_err-put_link.ensures.1
+    c.in_err-put_link.ensures.never_failed
+
+pub returns-in_err-put_link-clause-number : goal.returns-in_err-put_link-clause-number
+returns-in_err-put_link-clause-number g c = c.put_link.ensures.number ∙ c.read.ensures.number ∙
+    c.find_before.ensures.number
+
+pub returns-clause-failed : goal.returns-clause-failed
+returns-clause-failed g c = λ e. absurd (c.put_free.ensures.never_failed e)
+
+pub returns-clause-number : goal.returns-clause-number
+returns-clause-number g c = c.put_free.ensures.number ∙ c.put_link.ensures.number ∙ c.read.ensures.number ∙
+    c.find_before.ensures.number

@@ -1,9 +1,9 @@
-use Rattle.std.proofs.Common.{◌≡◌, ◌<◌, ◌≤◌, false, true, inl, inr, ap, length, slice_index_or, refl, arith}
-use Rattle.std.proofs.lemmas.Result.{err_from_is_err_and}
+use Rattle.std.proofs.Common.{◌≡◌, ◌∙◌, ◌<◌, ◌≤◌, false, true, inl, inr, ap, length, slice_index_or, refl, arith}
+use Rattle.std.proofs.lemmas.Result.{IfOk-from_err, err_from_is_err_and}
 use Rattle.ci_space.specs.Interval.{IsEmpty}
 use Rattle.ci_overflow.specs.Places.{first_independent}
 use Rattle.ci_overflow.specs.Faults.{FitsEmpty, IsAtFault}
-use Rattle.ci_overflow.proofs.Going.{named_fault}
+use Rattle.ci_overflow.proofs.Going.{failed_then, named_fault, rose_then}
 use Rattle.ci_overflow.proofs.FaultLemmas.{shared-fault, early-fault}
 use Rattle.ci_overflow.proofs.JoinFaults.{empty-fits, base-moved, control-link, control-some, free-fault}
 use Rattle.ci_overflow.proofs.Joins.{joins-free, base-before}
@@ -76,3 +76,58 @@ returns-in_err-at-clause-damaged g c = λ t e z f n i.
       | inl h ↦ base-moved _ _ _ _ _ _ _ _ c.requires.uow c.requires.base put h
       | inr h ↦ absurd (empty-fits _ _ (c.if-not-is_empty.ensures.0 refl) fits h.1)
     ]
+
+-- ---- what each exit says besides
+
+pub returns-in_err-interval-clause-joined : goal.returns-in_err-interval-clause-joined
+returns-in_err-interval-clause-joined g c = λ t e. IfOk-from_err c.from_residual.result _ c.from_residual.ensures.0
+
+pub returns-in_err-interval-clause-in_range : goal.returns-in_err-interval-clause-in_range
+returns-in_err-interval-clause-in_range g c = IfOk-from_err c.from_residual.result _ c.from_residual.ensures.0
+
+pub returns-in_err-interval-clause-failed : goal.returns-in_err-interval-clause-failed
+returns-in_err-interval-clause-failed g c = rose_then c.from_residual.result _ _ _ _ c.from_residual.ensures.1
+    (omega arith) c.in_err-interval.ensures.failed
+
+pub returns-in_err-put_counts-clause-joined : goal.returns-in_err-put_counts-clause-joined
+returns-in_err-put_counts-clause-joined g c = λ t e. IfOk-from_err c.from_residual-in_err-put_counts.result _
+    c.from_residual-in_err-put_counts.ensures.0
+
+pub returns-in_err-put_counts-clause-in_range : goal.returns-in_err-put_counts-clause-in_range
+returns-in_err-put_counts-clause-in_range g c = IfOk-from_err c.from_residual-in_err-put_counts.result _
+    c.from_residual-in_err-put_counts.ensures.0
+
+pub returns-in_err-put_counts-clause-failed : goal.returns-in_err-put_counts-clause-failed
+returns-in_err-put_counts-clause-failed g c = failed_then c.from_residual-in_err-put_counts.result _
+    c.from_residual-in_err-put_counts.ensures.1
+    c.in_err-put_counts.ensures.never_failed
+
+pub returns-in_err-put_counts-clause-number : goal.returns-in_err-put_counts-clause-number
+returns-in_err-put_counts-clause-number g c = c.put_counts.ensures.number ∙ c.read.ensures.number
+
+pub returns-in_err-put_counts-clause-goes_on : goal.returns-in_err-put_counts-clause-goes_on
+returns-in_err-put_counts-clause-goes_on g c = goes_on_joined _ _ _ _ _ _ _ c.read.ensures.goes_on
+    c.put_counts.ensures.goes_on
+
+pub returns-in_err-at-clause-joined : goal.returns-in_err-at-clause-joined
+returns-in_err-at-clause-joined g c = λ t e. IfOk-from_err c.from_residual-in_err-at.result _
+    c.from_residual-in_err-at.ensures.0
+
+pub returns-in_err-at-clause-in_range : goal.returns-in_err-at-clause-in_range
+returns-in_err-at-clause-in_range g c = IfOk-from_err c.from_residual-in_err-at.result _
+    c.from_residual-in_err-at.ensures.0
+
+pub returns-in_err-at-clause-failed : goal.returns-in_err-at-clause-failed
+returns-in_err-at-clause-failed g c = rose_then c.from_residual-in_err-at.result _ _ _ _
+    c.from_residual-in_err-at.ensures.1
+    (omega (arith, c.read.ensures.goes_on.later, c.put_counts.ensures.goes_on.later)) c.in_err-at.ensures.failed
+
+pub returns-in_err-at-clause-number : goal.returns-in_err-at-clause-number
+returns-in_err-at-clause-number g c = c.join.ensures.number ∙ c.put_counts.ensures.number ∙ c.read.ensures.number
+
+pub returns-clause-number : goal.returns-clause-number
+returns-clause-number g c = c.join.ensures.number ∙ c.put_counts.ensures.number ∙ c.read.ensures.number
+
+pub returns-clause-goes_on : goal.returns-clause-goes_on
+returns-clause-goes_on g c = goes_on_joined _ _ _ _ _ _ _ (goes_on_joined _ _ _ _ _ _ _ c.read.ensures.goes_on
+    c.put_counts.ensures.goes_on) c.join.ensures.goes_on

@@ -1,10 +1,10 @@
 use Rattle.std.proofs.Common.{◌≤◌, ◌-◌, inl, inr, ◌∙◌, length, sym, ap, arith}
-use Rattle.std.proofs.lemmas.Result.{err_from_is_err_and}
+use Rattle.std.proofs.lemmas.Result.{IfOk-from_err, err_from_is_err_and}
 use Rattle.ci_space.specs.Interval.{IsEmpty}
 use Rattle.ci_overflow.specs.Places.{first_independent}
 use Rattle.ci_overflow.specs.Lists.{bytes_at}
 use Rattle.ci_overflow.specs.Faults.{FitsEmpty, IsAtFault}
-use Rattle.ci_overflow.proofs.Going.{named_fault}
+use Rattle.ci_overflow.proofs.Going.{damaged_then, failed_then, named_fault, rose_then}
 use Rattle.ci_overflow.proofs.JoinFaults.{empty-fits, base-grown, count-fault, new-there, new-empty}
 use Rattle.ci_overflow.proofs.Joins.{joins-new, base-before}
 use Rattle.ci_overflow.proofs.joined.join_new.Goals as goal
@@ -100,3 +100,105 @@ returns-in_err-at-clause-damaged g c = λ t e f n i.
       | inl h ↦ base-grown _ _ _ _ _ _ _ _ _ _ c.requires.uow c.requires.base below grown counts h
       | inr h ↦ absurd (empty-fits _ _ empty fits h.1)
     ]
+
+-- ---- what each exit says besides
+
+pub returns-in_err-extend-clause-joined : goal.returns-in_err-extend-clause-joined
+returns-in_err-extend-clause-joined g c = λ t e. IfOk-from_err c.from_residual.result _ c.from_residual.ensures.0
+
+pub returns-in_err-extend-clause-in_range : goal.returns-in_err-extend-clause-in_range
+returns-in_err-extend-clause-in_range g c = IfOk-from_err c.from_residual.result _ c.from_residual.ensures.0
+
+pub returns-in_err-extend-clause-failed : goal.returns-in_err-extend-clause-failed
+returns-in_err-extend-clause-failed g c = rose_then c.from_residual.result _ _ _ _ c.from_residual.ensures.1
+    (omega arith)
+    c.in_err-extend.ensures.failed
+
+pub returns-in_err-extend-clause-damaged : goal.returns-in_err-extend-clause-damaged
+returns-in_err-extend-clause-damaged g c = λ t e f n. damaged_then c.from_residual.result _ n
+    c.from_residual.ensures.1 (λ e. absurd (c.in_err-extend.ensures.never_damaged n e))
+
+pub returns-in_err-extend-clause-number : goal.returns-in_err-extend-clause-number
+returns-in_err-extend-clause-number g c = c.extend.ensures.number
+
+pub returns-in_err-put_counts-clause-joined : goal.returns-in_err-put_counts-clause-joined
+returns-in_err-put_counts-clause-joined g c = λ t e. IfOk-from_err c.from_residual-in_err-put_counts.result _
+    c.from_residual-in_err-put_counts.ensures.0
+
+pub returns-in_err-put_counts-clause-in_range : goal.returns-in_err-put_counts-clause-in_range
+returns-in_err-put_counts-clause-in_range g c = IfOk-from_err c.from_residual-in_err-put_counts.result _
+    c.from_residual-in_err-put_counts.ensures.0
+
+pub returns-in_err-put_counts-clause-failed : goal.returns-in_err-put_counts-clause-failed
+returns-in_err-put_counts-clause-failed g c = failed_then c.from_residual-in_err-put_counts.result _
+    c.from_residual-in_err-put_counts.ensures.1
+    c.in_err-put_counts.ensures.never_failed
+
+pub returns-in_err-put_counts-clause-damaged : goal.returns-in_err-put_counts-clause-damaged
+returns-in_err-put_counts-clause-damaged g c = λ t e f n. damaged_then c.from_residual-in_err-put_counts.result _ n
+    c.from_residual-in_err-put_counts.ensures.1 (λ e. absurd (c.in_err-put_counts.ensures.never_damaged n e))
+
+pub returns-in_err-put_counts-clause-number : goal.returns-in_err-put_counts-clause-number
+returns-in_err-put_counts-clause-number g c = omega (arith, c.extend.ensures.number, c.put_counts.ensures.number)
+
+pub returns-in_err-put_counts-clause-goes_on : goal.returns-in_err-put_counts-clause-goes_on
+returns-in_err-put_counts-clause-goes_on g c = goes_on_joined _ _ _ _ _ _ _ c.extend.ensures.goes_on
+    c.put_counts.ensures.goes_on
+
+pub returns-in_err-interval-clause-joined : goal.returns-in_err-interval-clause-joined
+returns-in_err-interval-clause-joined g c = λ t e. IfOk-from_err c.from_residual-in_err-interval.result _
+    c.from_residual-in_err-interval.ensures.0
+
+pub returns-in_err-interval-clause-in_range : goal.returns-in_err-interval-clause-in_range
+returns-in_err-interval-clause-in_range g c = IfOk-from_err c.from_residual-in_err-interval.result _
+    c.from_residual-in_err-interval.ensures.0
+
+pub returns-in_err-interval-clause-failed : goal.returns-in_err-interval-clause-failed
+returns-in_err-interval-clause-failed g c = rose_then c.from_residual-in_err-interval.result _ _ _ _
+    c.from_residual-in_err-interval.ensures.1
+    (omega (arith, c.extend.ensures.goes_on.later, c.put_counts.ensures.goes_on.later))
+    c.in_err-interval.ensures.failed
+
+pub returns-in_err-interval-clause-number : goal.returns-in_err-interval-clause-number
+returns-in_err-interval-clause-number g c = omega (
+  arith,
+  c.extend.ensures.number,
+  c.put_counts.ensures.number,
+  c.read.ensures.number,
+)
+
+pub returns-in_err-interval-clause-goes_on : goal.returns-in_err-interval-clause-goes_on
+returns-in_err-interval-clause-goes_on g c = goes_on_joined _ _ _ _ _ _ _ (goes_on_joined _ _ _ _ _ _ _
+    c.extend.ensures.goes_on c.put_counts.ensures.goes_on) c.read.ensures.goes_on
+
+pub returns-in_err-at-clause-joined : goal.returns-in_err-at-clause-joined
+returns-in_err-at-clause-joined g c = λ t e. IfOk-from_err c.from_residual-in_err-at.result _
+    c.from_residual-in_err-at.ensures.0
+
+pub returns-in_err-at-clause-in_range : goal.returns-in_err-at-clause-in_range
+returns-in_err-at-clause-in_range g c = IfOk-from_err c.from_residual-in_err-at.result _
+    c.from_residual-in_err-at.ensures.0
+
+pub returns-in_err-at-clause-failed : goal.returns-in_err-at-clause-failed
+returns-in_err-at-clause-failed g c = rose_then c.from_residual-in_err-at.result _ _ _ _
+    c.from_residual-in_err-at.ensures.1
+    (omega (arith, c.extend.ensures.goes_on.later, c.put_counts.ensures.goes_on.later, c.read.ensures.goes_on.later))
+    c.in_err-at.ensures.failed
+
+pub returns-in_err-at-clause-number : goal.returns-in_err-at-clause-number
+returns-in_err-at-clause-number g c = omega (
+  arith,
+  c.extend.ensures.number,
+  c.put_counts.ensures.number,
+  c.read.ensures.number,
+  c.join.ensures.number,
+)
+
+pub returns-clause-number : goal.returns-clause-number
+returns-clause-number g c = omega (
+  arith,
+  c.extend.ensures.number,
+  c.put_counts.ensures.number,
+  c.read.ensures.number,
+  c.join.ensures.number,
+)
