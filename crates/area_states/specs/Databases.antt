@@ -16,7 +16,8 @@ use Rattle.area_states.specs.States.{AreaState, HasState}
 -- the ends that databases have of an area
 abbrev pub ends_in : Db → Place → AreaEnds
 ends_in db place =
-    option_map_or (λ d. unwrap_or (slice_get d.areas place.number) first_ends) (slice_get db.dedbs place.dedb) first_ends
+    option_map_or (λ d. unwrap_or (slice_get d.areas place.number) first_ends)
+    (slice_get db.dedbs place.dedb) first_ends
 
 -- what databases have in an area
 abbrev pub state_of : Place → Db → AreaState

@@ -76,7 +76,8 @@ fn store_here<I: Intervals>(
     ensures alone { I.told i.old → (state : AreaState) → HasState place.now (I.intervals i.old) state
         → AllByRecursion (HasListOf (state.roots anchor)) roots.now
         → ascend (map (root_key place.now.segments) (state.roots anchor)) ≡ true
-        → RootsDiffer (state.roots anchor) roots.now → OnOk result (OneChanges (I.intervals i.old) (I.intervals i.new)) }
+        → RootsDiffer (state.roots anchor) roots.now
+        → OnOk result (OneChanges (I.intervals i.old) (I.intervals i.new)) }
     ensures sound { I.told i.old → (state : AreaState) → HasState place.now (I.intervals i.old) state → (ci : ℕ)
         → result ≢ Err (AnchorFault.Damaged ci) }
     ensures failed { IsErrOf result AnchorFault.Failed → Rose (I.faults i.old) (I.faults i.new) }

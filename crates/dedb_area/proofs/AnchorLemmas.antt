@@ -1,5 +1,5 @@
 -- The roots of an anchor, by the newest bytes of its area.
-use Rattle.std.proofs.Common.{◌≡◌, inl, inr, ℕ, zero, suc, ◌+◌, ◌-◌, ◌*◌, ◌<◌, ◌≤◌, ◌^◌, true, false, List, [], ◌∷◌, get_or, length, refl, sym, ◌∙◌, ap, subst, arith}
+use Rattle.std.proofs.Common.{◌≡◌, inl, inr, ℕ, zero, suc, ◌+◌, ◌-◌, ◌*◌, ◌<◌, ◌≤◌, ◌^◌, true, false, List, length, refl, sym, ◌∙◌, ap, subst, arith}
 use Rattle.std.specs.Prelude.{None, Some, Result, Ok, Err, IfOk, min, nat_lt, slice_get}
 use Rattle.std.proofs.Math.Nat.{zero-min}
 use Rattle.std.proofs.lemmas.Bool.{cases_Bool, cases_eq}
@@ -201,15 +201,18 @@ fresh_area place set set2 size2 count count2 contents contents2 pool pool2 stage
     ≡ staged_area count staged pool contents set place.shape.ci = cc in
     e ∙ nothing_staged place set count contents pool bytes staged shown is none
 
--- and what it tells of the pool
-pub fresh_told : (place : Place) (set set2 size2 : ℕ) (contents contents2 : ℕ → List ℕ) (pool pool2 : Held)
-    (bytes : ℕ → List ℕ) → set2 ≡ set → size2 ≡ place.shape.ci → contents2 ≡ contents → pool2 ≡ pool
-    → ShowsArea place set contents pool bytes → IsToldPool set2 size2 contents2 pool2
-fresh_told place set set2 size2 contents contents2 pool pool2 bytes e1 e2 e4 e5 shown =
-    subst (λ x. IsToldPool x size2 contents2 pool2) (sym e1)
-    (subst (λ x. IsToldPool set x contents2 pool2) (sym e2)
-    (subst (λ x. IsToldPool set place.shape.ci x pool2) (sym e4)
-    (subst (λ x. IsToldPool set place.shape.ci contents x) (sym e5) shown.told)))
+-- and what it tells of the site and the pool
+pub fresh_tells : {S : Type 0} (told : S → Type 0) (disk : S → Disk) (set set2 size size2 : ℕ) (site site2 : S)
+    (pool pool2 : Held) → set2 ≡ set → size2 ≡ size → site2 ≡ site → pool2 ≡ pool → told site
+    → IsToldPool set size (disk site).contents pool
+    → told site2 × IsToldPool set2 size2 (disk site2).contents pool2
+fresh_tells told disk set set2 size size2 site site2 pool pool2 e1 e2 e3 e4 t is = (
+  subst told (sym e3) t,
+  subst (λ x. IsToldPool x size2 (disk site2).contents pool2) (sym e1)
+      (subst (λ x. IsToldPool set x (disk site2).contents pool2) (sym e2)
+      (subst (λ x. IsToldPool set size (disk x).contents pool2) (sym e3)
+      (subst (λ x. IsToldPool set size (disk site).contents x) (sym e4) is))),
+)
 
 -- ---- as a call on all areas answers
 

@@ -7,19 +7,10 @@ use Rattle.held_intervals.proofs.Holds.{listed_same}
 use Rattle.ci_pool.specs.Held.{Held, newest_in}
 use Rattle.area_staging.specs.declared.extent.Extent.{Extent}
 use Rattle.area_staging.specs.Changing.{AreWithin, Shows}
-use Rattle.area_staging.specs.Staging.{IsToldPool, staged_area, staged_or_newest}
+use Rattle.area_staging.specs.Staging.{staged_area, staged_or_newest}
 use Rattle.area_staging.proofs.Staged.{in_pool, newest_same}
 
 -- ---- with nothing staged
-
-pub told_same : (set set2 size size2 : ℕ) (contents contents2 : ℕ → List ℕ) (pool pool2 : Held) → set2 ≡ set
-    → size2 ≡ size → contents2 ≡ contents → pool2 ≡ pool → IsToldPool set size contents pool
-    → IsToldPool set2 size2 contents2 pool2
-told_same set set2 size size2 contents contents2 pool pool2 e1 e2 e3 e4 told =
-    subst (λ x. IsToldPool x size2 contents2 pool2) (sym e1)
-    (subst (λ x. IsToldPool set x contents2 pool2) (sym e2)
-    (subst (λ x. IsToldPool set size x pool2) (sym e3)
-    (subst (λ x. IsToldPool set size contents x) (sym e4) told)))
 
 pub fresh_list : (area : Extent) (set2 size2 count2 : ℕ) (contents contents2 : ℕ → List ℕ) (pool pool2 : Held)
     (staged : Changes) (bytes : ℕ → List ℕ) → set2 ≡ area.set → size2 ≡ area.size → count2 ≡ area.count

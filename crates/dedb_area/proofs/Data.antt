@@ -1,5 +1,5 @@
 -- Data sets that are areas.
-use Rattle.std.proofs.Common.{◌≡◌, inl, inr, ℕ, ◌-◌, ◌≤◌, zero, suc, List, [], ◌∷◌, subst, arith}
+use Rattle.std.proofs.Common.{◌≡◌, ◌∙◌, inl, inr, ℕ, ◌+◌, ◌-◌, ◌<◌, ◌≤◌, zero, suc, List, [], ◌∷◌, ap, get_or, length, subst, arith}
 use Rattle.std.specs.Prelude.{nat_lt, slice_get, Some, None, IsSome, IsTrue}
 use Rattle.std.proofs.lemmas.Bool.{cases_Bool}
 use Rattle.std.proofs.lemmas.Bool.Decides.{nat_tests}
@@ -7,6 +7,8 @@ use Rattle.ci_space.specs.Interval.{is_size}
 use Rattle.fp_model.specs.State.{first_area_set}
 use Rattle.area_states.specs.declared.place.Place.{Place}
 use Rattle.area_states.specs.Places.{place_at, IsPlace, ArePlaces}
+use Rattle.area_laws.proofs.FullLemmas.{at_set}
+use Rattle.plain_laws.proofs.Places.{stands_at}
 
 -- an area's data set is behind those of the log and the checkpoints
 pub area_behind : (places : List Place) (set : ℕ) → IsSome (place_at places set) → first_area_set ≤ set
@@ -32,3 +34,9 @@ place_there places set place are is = elim (cases_Bool (nat_lt set first_area_se
     at_place [] k all h = cc
     at_place (p ∷ ps) zero all h = let e : p ≡ place = cc in subst IsPlace e all.0
     at_place (p ∷ ps) (suc k) all h = at_place ps k all.1 h
+
+-- the area that a loop along them is at
+pub place_in_turn : (places : List Place) (set index : ℕ) (place : Place) → set ≡ first_area_set + index
+    → index < length places → place ≡ get_or places index place → place_at places set ≡ Some place
+place_in_turn places set index place here lt is =
+    ap (place_at places) here ∙ at_set places index place (stands_at places index place lt is)

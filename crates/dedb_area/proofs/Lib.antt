@@ -25,6 +25,7 @@ pub mod StageLemmas
 pub mod Fitting
 pub mod Opened
 pub mod Ones
+pub mod StageRun
 pub mod PurgeDatabases
 pub mod Sent
 pub mod LeadingLemmas

@@ -1,18 +1,19 @@
 -- A commit that changes one segment has one item.
-use Rattle.std.proofs.Common.{◌≡◌, ◌≢◌, inl, inr, ℕ, zero, suc, ◌+◌, ◌-◌, ◌<◌, ◌≤◌, Bool, true, false, List, [], ◌∷◌, ◌++◌, length, refl, sym, ◌∙◌, ap, subst, arith}
+use Rattle.std.proofs.Common.{◌≡◌, ◌≢◌, inl, inr, ℕ, ◌+◌, ◌-◌, ◌<◌, ◌≤◌, Bool, true, false, List, [], ◌∷◌, ◌++◌, length, refl, sym, ◌∙◌, ap, subst, arith}
 use Rattle.std.specs.Prelude.{◌==◌, ◌&&◌, ◌||◌, Option, Some, None, Result, Ok, Err, IfOk, nat_lt}
 use Rattle.std.specs.List.{AllByRecursion}
 use Rattle.std.proofs.lemmas.Bool.{cases_eq, cases_lt}
 use Rattle.std.proofs.lemmas.Bool.Decides.{nat_tests}
 use Rattle.fp_model.specs.ItemTargets.{OfInterval, is_ascending, item_target, names_interval, precedes, target_precedes}
+use Rattle.fp_model.specs.State.{first_area_set}
 use Rattle.fp_model.specs.declared.calls.AnchorChange.{AnchorChange}
 use Rattle.fp_model.specs.declared.calls.SeqInsert.{SeqInsert}
+use Rattle.fp_model.specs.declared.database.Db.{Db}
 use Rattle.fp_model.specs.declared.database.Root.{Root}
 use Rattle.fp_model.specs.declared.log.Item.{Item}
 use Rattle.fp_model.specs.declared.log.Item.TheVariants.{Segment, Image, Range}
 use Rattle.root_changes.specs.Differing.{RootsDiffer}
 use Rattle.root_changes.proofs.ComparingLemmas.{roots_apart, same_there}
-use Rattle.ci_overflow.specs.Lists.{bytes_at}
 use Rattle.held_intervals.specs.Holding.{Changes, Fit, held_or, listed}
 use Rattle.area_redo.specs.Redo.{names}
 use Rattle.area_states.specs.declared.place.Place.{Place}
@@ -25,7 +26,9 @@ use Rattle.area_staging.specs.Changing.{IsFitFor, MakeChanges}
 use Rattle.area_staging.specs.Staging.{length_listed}
 use Rattle.dedb_area.specs.Anchors.{intervals_of}
 use Rattle.dedb_area.specs.Committing.{committed, is_concerned}
-use Rattle.dedb_area.specs.inside.Committing.{ChangesOneSegment, MakesArea, OneChanged}
+use Rattle.dedb_area.specs.inside.Committing.{ChangesOneSegment, MakesArea, OneChanged, OneSegmentChanges}
+use Rattle.dedb_area.specs.inside.Staging.{HasOneItem, not_yet, there}
+use Rattle.dedb_area.proofs.AnchorLemmas.{within_areas}
 use Rattle.plain_laws.proofs.Truths.{first_of_both}
 use Rattle.plain_laws.proofs.Numbers.{is_number}
 use Rattle.area_laws.proofs.StartLemmas.{listed_at}
@@ -161,58 +164,58 @@ one_changed count after size bytes changed fit one =
 
 -- ---- areas one after another
 
--- The areas before this data set are staged: none of them is concerned and there is no item, or the one that is concerned
--- is among them, and there is one.
-pub data HasOneItem (places : List Place) (changes : List AnchorChange) (inserts : List SeqInsert) (data_set : ℕ)
-    (items : List Item) : Type 0 where
-  not_yet : items ≡ [] → ((other : ℕ) (next : Place) → place_at places other ≡ Some next → other < data_set
-      → is_concerned next changes inserts ≡ false) → HasOneItem places changes inserts data_set items
-  there : length items ≡ 1 → (other : ℕ) (next : Place) → place_at places other ≡ Some next → other < data_set
-      → is_concerned next changes inserts ≡ true → HasOneItem places changes inserts data_set items
-
 length_more : (xs ys : List Item) → length (xs ++ ys) ≡ length xs + length ys
 length_more [] ys = omega arith
 length_more (x ∷ xs) ys = let l = length_more xs ys in omega (arith, l)
 
-module _ (places : List Place) (changes : List AnchorChange) (inserts : List SeqInsert) (data_set : ℕ)
-    (place : Place) (is : place_at places data_set ≡ Some place) (items more now : List Item)
-    (added : now ≡ items ++ more) where
+module _ (places : List Place) (changes : List AnchorChange) (inserts : List SeqInsert) (data_set later : ℕ)
+    (step : later ≡ data_set + 1) (place : Place) (is : place_at places data_set ≡ Some place)
+    (items more now : List Item) (added : now ≡ items ++ more) where
   -- this one isn't concerned
   pub one_passed : is_concerned place changes inserts ≡ false → more ≡ []
-      → HasOneItem places changes inserts data_set items → HasOneItem places changes inserts (data_set + 1) now
+      → HasOneItem places changes inserts data_set items → HasOneItem places changes inserts later now
   one_passed other none (not_yet empty before) =
       not_yet (added ∙ ap (λ l. l ++ more) empty ∙ none) (λ s next at lt. elim (cases_eq s data_set) [
         | inl e ↦
             let both : Some next ≡ Some place = sym at ∙ ap (place_at places) e ∙ is in
             let same : next ≡ place = cc in
             ap (λ (p : Place). is_concerned p changes inserts) same ∙ other
-        | inr ne ↦ before s next at (omega (arith, lt, ne))
+        | inr ne ↦ before s next at (omega (arith, step, lt, ne))
       ])
   one_passed other none (there one s next at lt concerned) =
       let n : length now ≡ length items + length more = ap length added ∙ length_more items more in
       let m : length more ≡ 0 = ap length none in
-      there (omega (arith, n, m, one)) s next at (omega (arith, lt)) concerned
+      there (omega (arith, n, m, one)) s next at (omega (arith, step, lt)) concerned
 
   -- this one is
   pub one_added : (db_one : (s t : ℕ) (p q : Place) → place_at places s ≡ Some p → place_at places t ≡ Some q
       → is_concerned p changes inserts ≡ true → is_concerned q changes inserts ≡ true → s ≡ t)
       → is_concerned place changes inserts ≡ true → length more ≡ 1
-      → HasOneItem places changes inserts data_set items → HasOneItem places changes inserts (data_set + 1) now
+      → HasOneItem places changes inserts data_set items → HasOneItem places changes inserts later now
   one_added alone concerned one (not_yet empty before) =
       let n : length now ≡ length items + length more = ap length added ∙ length_more items more in
       let m : length items ≡ 0 = ap length empty in
-      there (omega (arith, n, m, one)) data_set place is (omega arith) concerned
+      there (omega (arith, n, m, one)) data_set place is (omega (arith, step)) concerned
   one_added alone concerned one (there first s next at lt that) =
       let same = alone s data_set next place at is that concerned in
       absurd (omega (arith, same, lt))
 
-pub one_in_all : (places : List Place) (changes : List AnchorChange) (inserts : List SeqInsert) (data_set n : ℕ)
+one_in_all : (places : List Place) (changes : List AnchorChange) (inserts : List SeqInsert) (data_set n : ℕ)
     (place : Place) (items : List Item) → place_at places data_set ≡ Some place
     → is_concerned place changes inserts ≡ true → data_set < n → HasOneItem places changes inserts n items
     → length items ≡ 1
 one_in_all places changes inserts data_set n place items is concerned lt (not_yet empty before) =
     absurd (not_both (sym concerned ∙ before data_set place is lt))
 one_in_all places changes inserts data_set n place items is concerned lt (there one s next at below that) = one
+
+-- behind all areas there is the one
+pub one_of_all : (places : List Place) (changes : List AnchorChange) (inserts : List SeqInsert) (db : Db)
+    (items : List Item) → OneSegmentChanges places db changes inserts
+    → HasOneItem places changes inserts (first_area_set + length places) items → length items ≡ 1
+one_of_all places changes inserts db items whole has =
+    let at = within_areas places whole.set whole.place whole.is_place in
+    one_in_all places changes inserts whole.set (first_area_set + length places) whole.place items whole.is_place
+    whole.concerned (let low = at.0 in let high = at.1 in omega (arith, low, high)) has
 
 -- no two areas are concerned
 pub two_concerned : (places : List Place) (changes : List AnchorChange) (inserts : List SeqInsert) (one : ℕ)

@@ -1,37 +1,31 @@
 -- A Purge of an area, staged.
-use Rattle.std.proofs.Common.{◌≡◌, ◌≢◌, inl, inr, ℕ, ◌*◌, ◌<◌, ◌≤◌, ◌^◌, Bool, false, true, List, length, refl, sym, ◌∙◌, ap, subst, arith}
-use Rattle.std.specs.Prelude.{◌==◌, ◌&&◌, if◌then◌else◌, Contains, Option, Some, None, Result, Ok, Err, IfNone, IfOk, IfSome, OnErr, IsSome, is_some}
-use Rattle.std.proofs.lemmas.Bool.{cases_eq}
+use Rattle.std.proofs.Common.{◌≡◌, ◌≢◌, ℕ, ◌*◌, ◌<◌, ◌≤◌, ◌^◌, Bool, false, true, List, length, refl, sym, ◌∙◌, ap, subst, arith}
+use Rattle.std.specs.Prelude.{◌==◌, ◌&&◌, if◌then◌else◌, Option, Some, None, Result, Ok, Err, IfNone, IfOk, IfSome, OnErr, is_some}
 use Rattle.std.proofs.lemmas.Bool.Decides.{nat_tests}
-use mathlib.Core.Path.{fun_ext}
-use Rattle.fp_site.specs.Disk.{Disk, IsLawful}
+use Rattle.fp_site.specs.Disk.{Disk}
 use Rattle.fp_model.specs.State.{first_area_set}
 use Rattle.fp_model.specs.declared.log.Item.{Item}
 use Rattle.ci_space.specs.Interval.{IsInterval, kind_of}
 use Rattle.ci_overflow.specs.Lists.{bytes_at}
 use Rattle.seq_dependents.specs.Control.{AreEnds, IsControl, begin_in, end_in}
 use Rattle.held_intervals.specs.Holding.{held_or}
-use Rattle.ci_pool.specs.Held.{Held, HasSize, pending_at, staged_at}
+use Rattle.ci_pool.specs.Held.{Held, staged_at}
 use Rattle.area_redo.specs.Redo.{AreaBytes}
-use Rattle.area_redo.specs.Standing.{Way, Stands, MayOpen}
+use Rattle.area_redo.specs.Standing.{Way}
 use Rattle.area_states.specs.declared.place.Place.{Place}
-use Rattle.area_states.specs.Places.{counted_by, layout_of, place_at}
+use Rattle.area_states.specs.Places.{counted_by}
 use Rattle.dedb_area.specs.Anchors.{intervals_of}
 use Rattle.dedb_area.specs.Control.{AreEnds as AreEndsOf}
-use Rattle.dedb_area.specs.Appending.{StagedStand, StagesInAreas}
-use Rattle.area_staging.specs.Items.{HasFlag, IsChange, IsItemOf, is_imaged}
-use Rattle.area_staging.specs.Looking.{LooksAt}
-use Rattle.dedb_area.specs.Looking.{LooksAtAreas}
+use Rattle.dedb_area.specs.Appending.{StagedStand}
+use Rattle.area_staging.specs.Items.{HasFlag, IsChange, IsItemOf}
 use Rattle.area_staging.specs.Flags.{AreFlagged, IsFlagged}
-use Rattle.dedb_area.specs.Publishing.{IsFitStaged}
 use Rattle.area_staging.specs.Items.{items_in}
 use Rattle.dedb_area.specs.Purging.{IsJustStaged, IsPurgeStaged, IsPurged, MayPurge}
 use Rattle.dedb_area.specs.inside.Purging.{IsControlStaged}
 use Rattle.area_staging.specs.Staging.{length_listed}
-use Rattle.dedb_area.specs.Standing.{AreasStand, Holding, IsFitPool, IsUnstaged, due_of, owed_of}
+use Rattle.dedb_area.specs.Standing.{AreasStand, Holding, IsUnstaged}
 use Rattle.dedb_area.proofs.AnchorLemmas.{first_bytes, some_counted}
-use Rattle.area_staging.proofs.Looks.{same_pending, same_staged}
-use Rattle.dedb_area.proofs.Looks.{areas_looked}
+use Rattle.area_staging.proofs.Looks.{same_staged}
 
 -- ---- control
 
@@ -79,9 +73,6 @@ not_past count past within = omega (arith, past, within)
 
 -- ---- the areas
 
-some_place : (o : Option Place) (place : Place) → o ≡ Some place → IsSome o
-some_place o place is = subst IsSome (sym is) refl
-
 -- with nothing staged they stand
 pub stands_unstaged : (way : Way) (bytes : AreaBytes) (disk : Disk) (areas : Holding) → StagedStand way bytes disk areas
     → IsUnstaged areas.pool → AreasStand way bytes disk areas
@@ -91,94 +82,6 @@ stands_unstaged way bytes disk areas stands none = record {
   synced = stands.synced;
   imaged = stands.imaged;
 }
-
-module _ {S : Type 0} (told : S → Type 0) (disk : S → Disk) (faults holds : S → ℕ) (keeps : S → S → Type 0)
-    (lawful : (s : S) → told s → IsLawful (disk s)) (set : ℕ) (place : Place) (places : List Place) (flags : List Bool)
-    (imaged imaged2 : List (List Bool)) (old new : S) (pool mid after : Held) (is : place_at places set ≡ Some place)
-    (looks : LooksAt told disk faults holds keeps set place.shape.ci old new pool mid)
-    (same : (s k : ℕ) → pending_at after s k ≡ pending_at mid s k) (list : after.clean ≡ mid.clean)
-    (sizes : (s n : ℕ) → (s ≡ set → n ≡ place.shape.ci) → HasSize s n mid → HasSize s n after)
-    (others : (s k : ℕ) → s ≢ set → staged_at after s k ≡ staged_at mid s k)
-    (flagged : (s k : ℕ) → is_imaged imaged2 s k ≡ is_imaged imaged s k) where
-  abbrev was : Holding
-  was = record { places = places; unsynced = flags; imaged = imaged; pool = pool }
-
-  abbrev looked : Holding
-  looked = record { places = places; unsynced = flags; imaged = imaged; pool = mid }
-
-  abbrev now : Holding
-  now = record { places = places; unsynced = flags; imaged = imaged2; pool = after }
-
-  all : LooksAtAreas told disk faults holds keeps old new was looked
-  all =
-      areas_looked told disk faults holds keeps lawful set place places flags imaged old new pool mid is looks
-
-  same_place : (s : ℕ) (p : Place) → place_at places s ≡ Some p → s ≡ set → p.shape.ci ≡ place.shape.ci
-  same_place s p there e =
-      let both : Some p ≡ Some place = sym there ∙ ap (place_at places) e ∙ is in
-      let one : p ≡ place = cc in
-      ap (λ (q : Place). q.shape.ci) one
-
-  fit_staged : IsFitPool places mid → IsFitStaged places after
-  fit_staged fit = record {
-    sizes = λ s p there. sizes s p.shape.ci (same_place s p there) (fit.sizes s p there);
-    areas = λ s k w h. fit.areas s k w (sym (same s k) ∙ h);
-    below = λ s k w h. fit.below s k w (sym (same s k) ∙ h);
-    staged = λ s k b h. elim (cases_eq s set) [
-      | inl e ↦ some_place (place_at places s) place (ap (place_at places) e ∙ is)
-      | inr ne ↦
-          let none : None ≡ Some b = sym (fit.unstaged s k) ∙ sym (others s k ne) ∙ h in
-          absurd cc
-    ];
-  }
-
-  same_owed : owed_of after ≡ owed_of mid
-  same_owed = fun_ext (λ s. fun_ext (λ k. ap due_of (same s k)))
-
-  stands_staged : (way : Way) (bytes : AreaBytes) → AreasStand way bytes (disk new) looked
-      → StagedStand way bytes (disk new) now
-  stands_staged way bytes s = record {
-    fit = fit_staged s.fit;
-    pool = record {
-      stands = subst (λ o. Stands (layout_of places) way o bytes (disk new)) (sym same_owed) s.pool.stands;
-      newest = λ k ci w h. s.pool.newest k ci w (sym (same k ci) ∙ h);
-      clean = λ k ci b c. s.pool.clean k ci b (subst (λ l. Contains l ((k, ci), b)) list c);
-    };
-    synced = s.synced;
-    imaged = λ k ci. flagged k ci ∙ s.imaged k ci;
-  }
-
-  pub stages_here : StagesInAreas told disk faults holds keeps old new was now
-  stages_here = record {
-    continued = looks.continued;
-    stays = looks.stays;
-    places = refl;
-    unsynced = refl;
-    imaged = flagged;
-    pending = λ s k. same s k ∙ same_pending pool mid looks.cells s k;
-    fit = λ fit. fit_staged (all.fit fit);
-    areas = λ t way bytes.
-        let kept = all.areas t way bytes in
-        record {
-          stands = λ s. stands_staged way bytes (kept.stands s);
-          moments = kept.moments;
-          opening = λ s may. subst (λ o. MayOpen (layout_of places) way o bytes (disk new)) (sym same_owed)
-              (kept.opening s may);
-          opening_moments = kept.opening_moments;
-        };
-  }
-
--- a look stages nothing
-module _ {S : Type 0} (told : S → Type 0) (disk : S → Disk) (faults holds : S → ℕ) (keeps : S → S → Type 0)
-    (lawful : (s : S) → told s → IsLawful (disk s)) (set : ℕ) (place : Place) (places : List Place) (flags : List Bool)
-    (imaged : List (List Bool)) (old new : S) (pool mid : Held) (is : place_at places set ≡ Some place)
-    (looks : LooksAt told disk faults holds keeps set place.shape.ci old new pool mid) where
-  pub stages_none : StagesInAreas told disk faults holds keeps old new
-      (record { places = places; unsynced = flags; imaged = imaged; pool = pool })
-      (record { places = places; unsynced = flags; imaged = imaged; pool = mid })
-  stages_none =
-      stages_here told disk faults holds keeps lawful set place places flags imaged imaged old new pool mid mid is looks
-      (λ s k. refl) refl (λ s n e h. h) (λ s k ne. refl) (λ s k. refl)
 
 pub still_unstaged : (pool mid : Held) → mid.cells ≡ pool.cells → IsUnstaged pool → IsUnstaged mid
 still_unstaged pool mid cells none s k = same_staged pool mid cells s k ∙ none s k

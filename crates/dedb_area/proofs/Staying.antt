@@ -8,7 +8,7 @@ use Rattle.fp_site.proofs.Runs.{stays_then}
 use Rattle.fp_lists.proofs.ContinuedLemmas.{continued_both, continued_none}
 use Rattle.fp_model.specs.Items.{items_of}
 use Rattle.fp_model.specs.State.{first_area_set}
-use Rattle.ci_pool.specs.Held.{Held, HasSize, pending_at}
+use Rattle.ci_pool.specs.Held.{Held, pending_at}
 use Rattle.area_redo.specs.Redo.{AreaBytes, Layout}
 use Rattle.area_redo.specs.Standing.{MayOpen, Stands, Way, since_mark}
 use Rattle.area_redo.specs.Steps.{SparesAreas}
@@ -23,8 +23,9 @@ use Rattle.area_staging.proofs.Stages.{newest_stays}
 use Rattle.dedb_area.specs.inside.Anchors.{ShowsAreas}
 use Rattle.dedb_area.specs.Appending.{StagedStand, StagesInAreas}
 use Rattle.dedb_area.specs.inside.Committing.{StagesAll}
+use Rattle.dedb_area.specs.Dropping.{IsDropped}
 use Rattle.dedb_area.specs.Publishing.{IsFitStaged}
-use Rattle.dedb_area.specs.Standing.{AreasStand, Holding, IsFitPool, IsUnstaged, due_of, owed_of}
+use Rattle.dedb_area.specs.Standing.{AreasMayOpen, AreasStand, Holding, IsFitPool, due_of, owed_of}
 
 module _ {S : Type 0} (told : S → Type 0) (disk : S → Disk) (faults holds : S → ℕ) (keeps : S → S → Type 0)
     (places : List Place) where
@@ -145,6 +146,20 @@ module _ {S : Type 0} (told : S → Type 0) (disk : S → Disk) (faults holds : 
           };
     }
 
+-- one area is staged
+pub area_stages : {S : Type 0} (told : S → Type 0) (disk : S → Disk) (faults holds : S → ℕ) (keeps : S → S → Type 0)
+    (places : List Place) → ((s : S) → told s → IsLawful (disk s)) → (set : ℕ) (place : Place) (flags : List Bool)
+    (imaged imaged2 : List (List Bool)) (old new : S) (pool after : Held) → place_at places set ≡ Some place
+    → Stages told disk faults holds keeps set place.shape.ci old new pool after
+    → ((s k : ℕ) → is_imaged imaged2 s k ≡ is_imaged imaged s k)
+    → StagesInAreas told disk faults holds keeps old new
+    (record { places = places; unsynced = flags; imaged = imaged; pool = pool })
+    (record { places = places; unsynced = flags; imaged = imaged2; pool = after })
+area_stages told disk faults holds keeps places lawful set place flags imaged imaged2 old new pool after is stages e =
+    stages_areas told disk faults holds keeps places lawful flags imaged imaged2 old new pool after
+    (all_more told disk faults holds keeps places lawful set place old old new pool pool after is
+    (all_itself told disk faults holds keeps places old pool) stages) e
+
 -- ---- what is dropped
 
 -- areas stand once what is staged of them is dropped
@@ -167,23 +182,10 @@ dropped_stand way bytes disk before after same list fit places unsynced imaged s
       imaged = λ k ci. ap (λ l. is_imaged l k ci) imaged ∙ stands.imaged k ci;
     }
 
-module _ {S : Type 0} (told : S → Type 0) (disk : S → Disk) (faults holds : S → ℕ) (keeps : S → S → Type 0) (old new : S)
-    (before mid : Holding) (dropped : Held) (same : (s k : ℕ) → pending_at dropped s k ≡ pending_at mid.pool s k)
-    (none : IsUnstaged dropped) (list : dropped.clean ≡ mid.pool.clean)
-    (sizes : (s n : ℕ) → HasSize s n mid.pool → HasSize s n dropped)
+module _ {S : Type 0} (told : S → Type 0) (disk : S → Disk) (faults holds : S → ℕ) (keeps : S → S → Type 0)
+    (old new : S) (before mid after : Holding) (dropped : IsDropped mid after)
     (stages : StagesInAreas told disk faults holds keeps old new before mid) where
-  abbrev after : Holding
-  after = record { places = mid.places; unsynced = mid.unsynced; imaged = mid.imaged; pool = dropped }
-
-  fit_after : IsFitStaged mid.places mid.pool → IsFitPool mid.places dropped
-  fit_after fit = record {
-    sizes = λ s p is. sizes s p.shape.ci (fit.sizes s p is);
-    areas = λ s k w h. fit.areas s k w (sym (same s k) ∙ h);
-    below = λ s k w h. fit.below s k w (sym (same s k) ∙ h);
-    unstaged = none;
-  }
-
-  still_fit : IsFitPool mid.places dropped → IsFitStaged mid.places dropped
+  still_fit : IsFitPool after.places after.pool → IsFitStaged after.places after.pool
   still_fit fit = record {
     sizes = fit.sizes;
     areas = fit.areas;
@@ -191,24 +193,30 @@ module _ {S : Type 0} (told : S → Type 0) (disk : S → Disk) (faults holds : 
     staged = λ s k b h. (let both : None ≡ Some b = sym (fit.unstaged s k) ∙ h in absurd cc);
   }
 
-  owed_after : owed_of dropped ≡ owed_of mid.pool
-  owed_after = fun_ext (λ s. fun_ext (λ k. ap due_of (same s k)))
-
   stand_after : (way : Way) (bytes : AreaBytes) → StagedStand way bytes (disk new) mid
       → AreasStand way bytes (disk new) after
   stand_after way bytes stands =
-      dropped_stand way bytes (disk new) mid after same list (fit_after stands.fit) refl refl refl stands
+      dropped_stand way bytes (disk new) mid after dropped.pending dropped.list (dropped.fit stands.fit) dropped.places
+      dropped.unsynced dropped.imaged stands
+
+  may_open_after : (way : Way) (bytes : AreaBytes) → AreasMayOpen way bytes (disk new) mid
+      → AreasMayOpen way bytes (disk new) after
+  may_open_after way bytes may =
+      let owed : owed_of after.pool ≡ owed_of mid.pool =
+      fun_ext (λ s. fun_ext (λ k. ap due_of (dropped.pending s k))) in
+      subst (λ (ps : List Place). MayOpen (layout_of ps) way (owed_of after.pool) bytes (disk new)) (sym dropped.places)
+      (subst (λ o. MayOpen (layout_of mid.places) way o bytes (disk new)) (sym owed) may)
 
   -- what was staged is dropped: the areas stand as before
   pub drop_stages : StagesInAreas told disk faults holds keeps old new before after
   drop_stages = record {
     continued = stages.continued;
     stays = stages.stays;
-    places = stages.places;
-    unsynced = stages.unsynced;
-    imaged = stages.imaged;
-    pending = λ s k. same s k ∙ stages.pending s k;
-    fit = λ fit. still_fit (fit_after (stages.fit fit));
+    places = dropped.places ∙ stages.places;
+    unsynced = dropped.unsynced ∙ stages.unsynced;
+    imaged = λ s k. ap (λ l. is_imaged l s k) dropped.imaged ∙ stages.imaged s k;
+    pending = λ s k. dropped.pending s k ∙ stages.pending s k;
+    fit = λ fit. still_fit (dropped.fit (stages.fit fit));
     areas = λ t way bytes.
         let kept = stages.areas t way bytes in
         record {
@@ -216,8 +224,7 @@ module _ {S : Type 0} (told : S → Type 0) (disk : S → Disk) (faults holds : 
               let now = stand_after way bytes (kept.stands s) in
               record { fit = still_fit now.fit; pool = now.pool; synced = now.synced; imaged = now.imaged };
           moments = kept.moments;
-          opening = λ s may. subst (λ o. MayOpen (layout_of mid.places) way o bytes (disk new)) (sym owed_after)
-              (kept.opening s may);
+          opening = λ s may. may_open_after way bytes (kept.opening s may);
           opening_moments = kept.opening_moments;
         };
   }

@@ -9,6 +9,7 @@ use Rattle.dedb_area.specs.Standing.{AreasStand, Holding}
 
 -- Where areas stand in a run, with the databases that they stand for: the first of these states behind the sealed entries,
 -- and the next behind each that isn't sealed.
-pub record DatabasesStand (way : Way) (bytes : AreaBytes) (states : List Db) (disk : Disk) (areas : Holding) : Type 0 where
+pub record DatabasesStand (way : Way) (bytes : AreaBytes) (states : List Db) (disk : Disk) (areas : Holding)
+    : Type 0 where
   pub areas_stand : AreasStand way bytes disk areas
   pub states_stand : ForStates areas.places bytes way.unsealed states

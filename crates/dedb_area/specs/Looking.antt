@@ -9,8 +9,8 @@ use Rattle.dedb_area.specs.Keeping.{KeepsAreas}
 
 -- By what the site tells: it is looked at and stays. What the pool has pending and staged stays, and areas that stand do so
 -- behind it.
-pub record LooksAtAreas {S : Type 0} (told : S → Type 0) (disk : S → Disk) (faults holds : S → ℕ) (keeps : S → S → Type 0)
-    (old new : S) (before after : Holding) : Type 0 where
+pub record LooksAtAreas {S : Type 0} (told : S → Type 0) (disk : S → Disk) (faults holds : S → ℕ)
+    (keeps : S → S → Type 0) (old new : S) (before after : Holding) : Type 0 where
   pub continued : IsContinued told faults holds keeps old new
   pub stays : told old → Stays (disk old) (disk new)
   pub places : after.places ≡ before.places

@@ -31,7 +31,8 @@ IsJustStaged set control pool (Some item) =
     (s k : ℕ) → staged_at pool s k ≡ (if s == set && k == 0 then Some control else None)
 
 -- A Purge of an area that is staged: control has an item exactly where its bytes are other then.
-pub record IsPurgeStaged (n set : ℕ) (imaged : Bool) (control : List ℕ) (pool : Held) (item : Option Item) : Type 0 where
+pub record IsPurgeStaged (n set : ℕ) (imaged : Bool) (control : List ℕ) (pool : Held) (item : Option Item)
+    : Type 0 where
   pub new : List ℕ
   pub purged : IsPurged n control new
   pub change : IsChange imaged set 0 control new item

@@ -3,3 +3,4 @@ pub mod Applying
 pub mod Committing
 pub mod Keeping
 pub mod Purging
+pub mod Staging

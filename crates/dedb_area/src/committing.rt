@@ -1,7 +1,7 @@
 //! Changed anchors and sequential inserts of a commit are staged: in each area, one after another, the intervals that they
 //! change, each with its item.
 
-ghost use Rattle.std.specs.Prelude.{◌≡◌, ◌≢◌, ◌+◌, ◌-◌, ◌*◌, ◌<◌, ◌≤◌, ◌^◌, ◌∷◌, [], ℕ, List as ListOf, Err, None, Ok, Some, IfOk, IsErrOf, IsSome, OnErr, OnOk, length, true, false};
+ghost use Rattle.std.specs.Prelude.{◌≡◌, ◌≢◌, ◌-◌, ◌<◌, ◌≤◌, ◌∷◌, [], ℕ, Err, None, Ok, Some, IfOk, IsErrOf, OnErr, OnOk, length, true};
 ghost use Rattle.std.specs.List.{AllByRecursion};
 ghost use Rattle.fp_model.specs.Commit.{FillsPart, first_full, with_anchors, with_inserts};
 ghost use Rattle.fp_model.specs.ItemTargets.{is_ascending};
@@ -16,21 +16,17 @@ ghost use Rattle.fp_lists.specs.Faults.{Rose};
 ghost use Rattle.ci_pool.specs.declared.fault.PoolFault.TheVariants as pool_fault;
 ghost use Rattle.area_redo.specs.Redo.{AreaBytes, redone};
 ghost use Rattle.area_redo.specs.Standing.{Way, behind};
-ghost use Rattle.area_states.specs.Changes.{IsInsertable, IsStorable, IsTooFull};
-ghost use Rattle.area_states.specs.Databases.{AreFor, state_of};
-ghost use Rattle.area_states.specs.Places.{ArePlaces, IsPlace, counted_by, has_anchor, place_at, places_of};
-ghost use Rattle.area_states.specs.States.{AreaState, HasState};
-ghost use Rattle.area_staging.specs.Changing.{AreStagedBy, IsFitFor, IsLeastOf, Stages, StagesItems};
-ghost use Rattle.area_staging.specs.inside.Changing.{AllBefore};
+ghost use Rattle.area_states.specs.Changes.{IsInsertable, IsStorable};
+ghost use Rattle.area_states.specs.Databases.{AreFor};
+ghost use Rattle.area_states.specs.Places.{ArePlaces, IsPlace, places_of};
+ghost use Rattle.area_staging.specs.Changing.{AreStagedBy};
 ghost use Rattle.area_staging.specs.Flags.{AreFlagged};
-ghost use Rattle.area_staging.specs.Items.{HasFlag, is_imaged};
-ghost use Rattle.area_staging.specs.Staging.{AllAtHand};
+ghost use Rattle.area_staging.specs.Items.{is_imaged};
 ghost use Rattle.ci_pool.specs.Held.{SameAtHand};
-ghost use Rattle.dedb_area.specs.Anchors.{AreInTime, CountsIntervals, IsBegin, intervals_of};
-ghost use Rattle.dedb_area.specs.inside.Anchors.{ShowsArea, ShowsAreas};
+ghost use Rattle.dedb_area.specs.Anchors.{AreInTime};
 ghost use Rattle.dedb_area.specs.Appending.{MayEnter, StagesInAreas};
 ghost use Rattle.dedb_area.specs.Committing.{ConcernedAreAtHand, FitsCommit, IsBeginIn, IsFitItem, IsLeast, MayStage, OnlyChanges, committed, has_change, has_insert, is_concerned};
-ghost use Rattle.dedb_area.specs.inside.Committing.{AreStagedUpTo, ChangesOneSegment, FitAreas, FitsArea, HasRoomFor, IsFirstFull, MakesArea, OneSegmentChanges, StagesAll};
+ghost use Rattle.dedb_area.specs.inside.Staging.{StageAreas, StagesArea};
 ghost use Rattle.dedb_area.specs.Standing.{AreasStand, IsUnstaged};
 ghost use Rattle.dedb_area.specs.declared.fault.AreaFault.TheVariants as fault;
 
@@ -105,59 +101,11 @@ fn stage_area<T: Site>(
     requires place { IsPlace place.now }
     requires from { first_area_set ≤ set }
     requires within { set - first_area_set < length imaged.old.items }
+    requires concerned { is_concerned place.now changes.now inserts.now ≡ true }
     requires storable { AllByRecursion (IsStorable place.now) changes.now }
     requires insertable { AllByRecursion (IsInsertable place.now) inserts.now }
-    ensures made { T.told site.old → (bytes : ℕ → ListOf ℕ)
-        → ShowsArea place.now set (T.disk site.old).contents pool.old bytes
-        → (state : AreaState) → HasState place.now (intervals_of place.now bytes) state
-        → FitsArea place.now state changes.now
-        → IfOk result (MakesArea place.now set (is_imaged imaged.old.items set) bytes
-        (committed place.now changes.now inserts.now state)) }
-    ensures staged { T.told site.old → (bytes : ℕ → ListOf ℕ)
-        → ShowsArea place.now set (T.disk site.old).contents pool.old bytes
-        → IfOk result (λ items. StagesItems set items bytes pool.old pool.new) }
-    ensures room { T.told site.old → (bytes : ℕ → ListOf ℕ)
-        → ShowsArea place.now set (T.disk site.old).contents pool.old bytes
-        → (state : AreaState) → HasState place.now (intervals_of place.now bytes) state
-        → FitsArea place.now state changes.now → OnOk result (HasRoomFor place.now state inserts.now) }
-    ensures one { T.told site.old → (bytes : ℕ → ListOf ℕ)
-        → ShowsArea place.now set (T.disk site.old).contents pool.old bytes
-        → (state : AreaState) → HasState place.now (intervals_of place.now bytes) state
-        → FitsArea place.now state changes.now → ChangesOneSegment place.now state changes.now inserts.now
-        → is_concerned place.now changes.now inserts.now ≡ true → IfOk result (λ items. length items ≡ 1) }
-    ensures least { T.told site.old → (bytes : ℕ → ListOf ℕ)
-        → ShowsArea place.now set (T.disk site.old).contents pool.old bytes
-        → IfOk result (AllByRecursion (IsLeastOf (counted_by (Some place.now) (bytes 0))
-        (is_imaged imaged.old.items set) bytes)) }
-    ensures fit { IfOk result (AllByRecursion (IsFitFor set place.now.shape.ci)) }
-    ensures in_order { IfOk result (λ items. is_ascending items ≡ true) }
-    ensures flagged { IfOk result (AreFlagged imaged.new.items) }
-    ensures flags { (s k : ℕ) → is_imaged imaged.new.items s k ≡ is_imaged imaged.old.items s k }
-    ensures kept { (s k : ℕ) → HasFlag imaged.old.items s k → HasFlag imaged.new.items s k }
-    ensures count { length imaged.new.items ≡ length imaged.old.items }
-    ensures full { T.told site.old → (bytes : ℕ → ListOf ℕ)
-        → ShowsArea place.now set (T.disk site.old).contents pool.old bytes
-        → (state : AreaState) → HasState place.now (intervals_of place.now bytes) state
-        → FitsArea place.now state changes.now → (s begin end n : ℕ)
-        → result ≡ Err (fault.SeqFull s begin end n) → IsTooFull place.now state inserts.now begin end n }
-    ensures sound { T.told site.old → (bytes : ℕ → ListOf ℕ)
-        → ShowsArea place.now set (T.disk site.old).contents pool.old bytes
-        → (state : AreaState) → HasState place.now (intervals_of place.now bytes) state
-        → FitsArea place.now state changes.now → CountsIntervals place.now (bytes 0) → (s at : ℕ)
-        → result ≢ Err (fault.Damaged s at) }
-    ensures begins { (s at : ℕ) → result ≡ Err (fault.Damaged s at) → (s ≡ set) × ((ci : ℕ) × IsBegin place.now ci at) }
-    ensures here { (s begin end n : ℕ) → result ≡ Err (fault.SeqFull s begin end n) → s ≡ set }
-    ensures failed { IsErrOf result fault.Device → Rose (T.faults site.old) (T.faults site.new) }
-    ensures unread { T.told site.old → (bytes : ℕ → ListOf ℕ)
-        → ShowsArea place.now set (T.disk site.old).contents pool.old bytes
-        → AllAtHand pool.old set (counted_by (Some place.now) (bytes 0))
-        → ReadsNothing (T.tells_reads site.old) (T.tells_reads site.new) (T.bytes_read site.old)
-        (T.bytes_read site.new) }
-    ensures hand { T.told site.old → (bytes : ℕ → ListOf ℕ)
-        → ShowsArea place.now set (T.disk site.old).contents pool.old bytes
-        → AllAtHand pool.old set (counted_by (Some place.now) (bytes 0)) → SameAtHand pool.old pool.new }
-    ensures stages { Stages T.told T.disk T.faults T.holds T.keeps set place.now.shape.ci site.old site.new pool.old
-        pool.new }
+    ensures { StagesArea T.told T.disk T.faults T.holds T.keeps T.tells_reads T.bytes_read place.now set changes.now
+        inserts.now site.old site.new pool.old pool.new imaged.old.items imaged.new.items result }
 {
     let count = counted(pool, site, place, set)?;
     let area = Extent {
@@ -186,60 +134,8 @@ fn stage_here<T: Site>(
     requires within { set - first_area_set < length imaged.old.items }
     requires storable { AllByRecursion (IsStorable place.now) changes.now }
     requires insertable { AllByRecursion (IsInsertable place.now) inserts.now }
-    ensures made { T.told site.old → (bytes : ℕ → ListOf ℕ)
-        → ShowsArea place.now set (T.disk site.old).contents pool.old bytes
-        → (state : AreaState) → HasState place.now (intervals_of place.now bytes) state
-        → FitsArea place.now state changes.now
-        → IfOk result (MakesArea place.now set (is_imaged imaged.old.items set) bytes
-        (committed place.now changes.now inserts.now state)) }
-    ensures staged { T.told site.old → (bytes : ℕ → ListOf ℕ)
-        → ShowsArea place.now set (T.disk site.old).contents pool.old bytes
-        → IfOk result (λ items. StagesItems set items bytes pool.old pool.new) }
-    ensures room { T.told site.old → (bytes : ℕ → ListOf ℕ)
-        → ShowsArea place.now set (T.disk site.old).contents pool.old bytes
-        → (state : AreaState) → HasState place.now (intervals_of place.now bytes) state
-        → FitsArea place.now state changes.now → OnOk result (HasRoomFor place.now state inserts.now) }
-    ensures one { T.told site.old → (bytes : ℕ → ListOf ℕ)
-        → ShowsArea place.now set (T.disk site.old).contents pool.old bytes
-        → (state : AreaState) → HasState place.now (intervals_of place.now bytes) state
-        → FitsArea place.now state changes.now → ChangesOneSegment place.now state changes.now inserts.now
-        → is_concerned place.now changes.now inserts.now ≡ true → IfOk result (λ items. length items ≡ 1) }
-    ensures none { is_concerned place.now changes.now inserts.now ≡ false → IfOk result (λ items. items ≡ []) }
-    ensures least { T.told site.old → (bytes : ℕ → ListOf ℕ)
-        → ShowsArea place.now set (T.disk site.old).contents pool.old bytes
-        → IfOk result (AllByRecursion (IsLeastOf (counted_by (Some place.now) (bytes 0))
-        (is_imaged imaged.old.items set) bytes)) }
-    ensures fit { IfOk result (AllByRecursion (IsFitFor set place.now.shape.ci)) }
-    ensures in_order { IfOk result (λ items. is_ascending items ≡ true) }
-    ensures flagged { IfOk result (AreFlagged imaged.new.items) }
-    ensures flags { (s k : ℕ) → is_imaged imaged.new.items s k ≡ is_imaged imaged.old.items s k }
-    ensures kept { (s k : ℕ) → HasFlag imaged.old.items s k → HasFlag imaged.new.items s k }
-    ensures count { length imaged.new.items ≡ length imaged.old.items }
-    ensures full { T.told site.old → (bytes : ℕ → ListOf ℕ)
-        → ShowsArea place.now set (T.disk site.old).contents pool.old bytes
-        → (state : AreaState) → HasState place.now (intervals_of place.now bytes) state
-        → FitsArea place.now state changes.now → (s begin end n : ℕ)
-        → result ≡ Err (fault.SeqFull s begin end n) → IsTooFull place.now state inserts.now begin end n }
-    ensures sound { T.told site.old → (bytes : ℕ → ListOf ℕ)
-        → ShowsArea place.now set (T.disk site.old).contents pool.old bytes
-        → (state : AreaState) → HasState place.now (intervals_of place.now bytes) state
-        → FitsArea place.now state changes.now → CountsIntervals place.now (bytes 0) → (s at : ℕ)
-        → result ≢ Err (fault.Damaged s at) }
-    ensures begins { (s at : ℕ) → result ≡ Err (fault.Damaged s at) → (s ≡ set) × ((ci : ℕ) × IsBegin place.now ci at) }
-    ensures here { (s begin end n : ℕ) → result ≡ Err (fault.SeqFull s begin end n) → s ≡ set }
-    ensures failed { IsErrOf result fault.Device → Rose (T.faults site.old) (T.faults site.new) }
-    ensures unread { T.told site.old → (bytes : ℕ → ListOf ℕ)
-        → ShowsArea place.now set (T.disk site.old).contents pool.old bytes
-        → (is_concerned place.now changes.now inserts.now ≡ true
-        → AllAtHand pool.old set (counted_by (Some place.now) (bytes 0)))
-        → ReadsNothing (T.tells_reads site.old) (T.tells_reads site.new) (T.bytes_read site.old)
-        (T.bytes_read site.new) }
-    ensures hand { T.told site.old → (bytes : ℕ → ListOf ℕ)
-        → ShowsArea place.now set (T.disk site.old).contents pool.old bytes
-        → (is_concerned place.now changes.now inserts.now ≡ true
-        → AllAtHand pool.old set (counted_by (Some place.now) (bytes 0))) → SameAtHand pool.old pool.new }
-    ensures stages { Stages T.told T.disk T.faults T.holds T.keeps set place.now.shape.ci site.old site.new pool.old
-        pool.new }
+    ensures { StagesArea T.told T.disk T.faults T.holds T.keeps T.tells_reads T.bytes_read place.now set changes.now
+        inserts.now site.old site.new pool.old pool.new imaged.old.items imaged.new.items result }
 {
     if is_concerned(place, changes, inserts) {
         return stage_area(alloc, pool, site, imaged, place, set, changes, inserts);
@@ -262,43 +158,8 @@ fn stage_all<T: Site>(
     requires few { length places.now ≤ 256 }
     requires each { length imaged.old.items ≡ length places.now }
     requires stageable { MayStage places.now changes.now inserts.now }
-    ensures staged { T.told site.old → (newest : AreaBytes) (db : Db)
-        → ShowsAreas places.now (T.disk site.old).contents pool.old newest → AreFor places.now newest db
-        → IsUnstaged pool.old → FitAreas places.now db changes.now
-        → IfOk result (λ items. AreStagedUpTo places.now (length places.now) (is_imaged imaged.old.items) newest
-        changes.now inserts.now db items pool.new) }
-    ensures one { T.told site.old → (newest : AreaBytes) (db : Db)
-        → ShowsAreas places.now (T.disk site.old).contents pool.old newest → AreFor places.now newest db
-        → FitAreas places.now db changes.now → OneSegmentChanges places.now db changes.now inserts.now
-        → IfOk result (λ items. length items ≡ 1) }
-    ensures least { T.told site.old → (newest : AreaBytes)
-        → ShowsAreas places.now (T.disk site.old).contents pool.old newest
-        → IfOk result (AllByRecursion (IsLeast places.now (is_imaged imaged.old.items) newest)) }
-    ensures fit { IfOk result (AllByRecursion (IsFitItem places.now)) }
-    ensures in_order { IfOk result (λ items. is_ascending items ≡ true) }
-    ensures flagged { IfOk result (AreFlagged imaged.new.items) }
-    ensures flags { (s k : ℕ) → is_imaged imaged.new.items s k ≡ is_imaged imaged.old.items s k }
-    ensures count { length imaged.new.items ≡ length imaged.old.items }
-    ensures full { T.told site.old → (newest : AreaBytes) (db : Db)
-        → ShowsAreas places.now (T.disk site.old).contents pool.old newest → AreFor places.now newest db
-        → IsUnstaged pool.old → FitAreas places.now db changes.now → (s begin end n : ℕ)
-        → result ≡ Err (fault.SeqFull s begin end n)
-        → IsFirstFull places.now db inserts.now s begin end n }
-    ensures sound { T.told site.old → (newest : AreaBytes) (db : Db)
-        → ShowsAreas places.now (T.disk site.old).contents pool.old newest → AreFor places.now newest db
-        → FitAreas places.now db changes.now → AreInTime places.now newest → (s at : ℕ)
-        → result ≢ Err (fault.Damaged s at) }
-    ensures begins { (s at : ℕ) → result ≡ Err (fault.Damaged s at) → IsBeginIn places.now s at }
-    ensures failed { IsErrOf result fault.Device → Rose (T.faults site.old) (T.faults site.new) }
-    ensures unread { T.told site.old → (newest : AreaBytes)
-        → ShowsAreas places.now (T.disk site.old).contents pool.old newest
-        → ConcernedAreAtHand places.now pool.old newest changes.now inserts.now
-        → ReadsNothing (T.tells_reads site.old) (T.tells_reads site.new) (T.bytes_read site.old)
-        (T.bytes_read site.new) }
-    ensures hand { T.told site.old → (newest : AreaBytes)
-        → ShowsAreas places.now (T.disk site.old).contents pool.old newest
-        → ConcernedAreAtHand places.now pool.old newest changes.now inserts.now → SameAtHand pool.old pool.new }
-    ensures stages { StagesAll T.told T.disk T.faults T.holds T.keeps places.now site.old site.new pool.old pool.new }
+    ensures { StageAreas T.told T.disk T.faults T.holds T.keeps T.tells_reads T.bytes_read places.now
+        (length places.now) changes.now inserts.now site.old site.new pool.old pool.new imaged.old.items imaged.new.items result }
 {
     let mut items = List::new(alloc);
     let mut set = FIRST_AREA;
@@ -311,6 +172,31 @@ fn stage_all<T: Site>(
 }
 
 impl Areas {
+    /// Stages changed anchors and sequential inserts of a commit. After a fault some intervals may be staged.
+    fn stage_places<T: Site>(
+        &mut self,
+        site: &mut T,
+        changes: &List<AnchorChange>,
+        inserts: &List<SeqInsert>,
+    ) -> Result<List<Item>, AreaFault>
+        requires { MayStage self.old.places changes.now inserts.now }
+        ensures done { StageAreas T.told T.disk T.faults T.holds T.keeps T.tells_reads T.bytes_read self.old.places
+            (length self.old.places) changes.now inserts.now site.old site.new self.old.pool self.new.pool
+            self.old.imaged self.new.imaged result }
+        ensures stages { StagesInAreas T.told T.disk T.faults T.holds T.keeps site.old site.new self.old self.new }
+    {
+        let places: &[Place] = &self.places;
+        stage_all(
+            self.alloc,
+            &mut self.pool,
+            site,
+            &mut self.imaged,
+            places,
+            changes.as_slice(),
+            inserts.as_slice(),
+        )
+    }
+
     /// Stages changed anchors and sequential inserts of a commit. Gives the items of the intervals that they change: an
     /// image where the interval has no item since the mark or is new in its area, else the range in which it differs, and
     /// none where its bytes stay. Nothing may be staged before.
@@ -409,19 +295,10 @@ impl Areas {
         // No area changes, at any moment; the pool may have other clean intervals.
         ensures stages { StagesInAreas T.told T.disk T.faults T.holds T.keeps site.old site.new self.old self.new }
     {
-        let places: &[Place] = &self.places;
-        match stage_all(
-            self.alloc,
-            &mut self.pool,
-            site,
-            &mut self.imaged,
-            places,
-            changes.as_slice(),
-            inserts.as_slice(),
-        ) {
+        match self.stage_places(site, changes, inserts) {
             Ok(items) => Ok(items),
             Err(fault) => {
-                self.pool.drop_staged();
+                self.drop_staged();
                 Err(fault)
             }
         }

@@ -101,7 +101,8 @@ fn write_start<T: Site>(
         → OnOk result (IsStarted shape.now (ci + 1) ((T.disk site.new).contents set)) }
     ensures leaves { T.told site.old → Leaves set (T.disk site.old) (T.disk site.new) }
     ensures areas { T.told site.old → OnlyAreas (T.disk site.old) (T.disk site.new) }
-    ensures aside { T.told site.old → (k : ℕ) → k ≢ set → IsDurable (T.disk site.old) k → IsDurable (T.disk site.new) k }
+    ensures aside { T.told site.old → (k : ℕ) → k ≢ set → IsDurable (T.disk site.old) k
+        → IsDurable (T.disk site.new) k }
     ensures failed { IsErrOf result fault.Device → Rose (T.faults site.old) (T.faults site.new) }
     ensures never_damaged { (s at : ℕ) → result ≢ Err (fault.Damaged s at) }
     ensures never_full { (s begin end n : ℕ) → result ≢ Err (fault.SeqFull s begin end n) }
@@ -153,7 +154,8 @@ fn format_all<T: Site>(alloc: Global, site: &mut T, places: &[Place]) -> Result<
     requires are { ArePlaces places.now }
     requires few { length places.now ≤ 256 }
     ensures formatted { T.told site.old → OnOk result ((number : ℕ) (place : PlaceOf)
-        → slice_get places.now number ≡ Some place → IsFormatted place.shape (first_area_set + number) (T.disk site.new)) }
+        → slice_get places.now number ≡ Some place
+        → IsFormatted place.shape (first_area_set + number) (T.disk site.new)) }
     ensures only { T.told site.old → OnlyAreas (T.disk site.old) (T.disk site.new) }
     ensures failed { IsErrOf result fault.Device → Rose (T.faults site.old) (T.faults site.new) }
     ensures never_damaged { (s at : ℕ) → result ≢ Err (fault.Damaged s at) }

@@ -24,7 +24,7 @@ ghost use Rattle.ci_pool.specs.Held.{HasSize, pending_at};
 ghost use Rattle.area_staging.specs.Items.{IsChange, is_imaged, items_in};
 ghost use Rattle.area_staging.specs.Looking.{LooksAt};
 ghost use Rattle.dedb_area.specs.Purging.{IsPurgeStaged, IsPurged, MayPurge, with_control};
-ghost use Rattle.dedb_area.specs.inside.Purging.{IsControlStaged};
+ghost use Rattle.dedb_area.specs.inside.Purging.{IsControlStaged, StagesPurge};
 ghost use Rattle.area_staging.specs.Flags.{AreFlagged};
 ghost use Rattle.area_staging.specs.Changing.{AreStagedBy, IsFitFor};
 ghost use Rattle.dedb_area.specs.Committing.{IsFitItem};
@@ -194,6 +194,30 @@ fn stage_control(
     Ok(Some(item))
 }
 
+/// Stages a Purge of an area: control with its begin moved up by `n`. Gives its item; None where control stays, and then
+/// nothing is staged. After a refusal nothing is staged.
+fn stage_purged<T: Site>(
+    alloc: Global,
+    pool: &mut Pool,
+    site: &mut T,
+    imaged: &mut Vec<List<bool>>,
+    place: &Place,
+    set: u16,
+    n: u64,
+) -> Result<Option<Item>, AreaFault>
+    requires size { IsTrue (is_size place.now.shape.ci) }
+    requires from { first_area_set ≤ set }
+    requires within { set - first_area_set < length imaged.old.items }
+    ensures { StagesPurge T.told T.disk T.faults T.holds T.keeps place.now set n site.old site.new pool.old pool.new
+        imaged.old.items imaged.new.items result }
+{
+    let (old, new) = control_purged(alloc, pool, site, place, set, n)?;
+    match new {
+        None => Ok(None),
+        Some(new) => stage_control(alloc, pool, imaged, set, &old, &new),
+    }
+}
+
 impl Areas {
     /// Stages a Purge of an area: control's begin moves up by `n`, at most to the end. Gives the item of control; None
     /// where control stays as it is, and then nothing is staged. Nothing may be staged before. `Damaged` names the first
@@ -253,18 +277,15 @@ impl Areas {
     {
         let places: &[Place] = &self.places;
         let place = place_in(places, set);
-        let (old, new) = control_purged(self.alloc, &mut self.pool, site, place, set, n)?;
-        match new {
-            None => Ok(None),
-            Some(new) => stage_control(
-                self.alloc,
-                &mut self.pool,
-                &mut self.imaged,
-                set,
-                &old,
-                &new,
-            ),
-        }
+        stage_purged(
+            self.alloc,
+            &mut self.pool,
+            site,
+            &mut self.imaged,
+            place,
+            set,
+            n,
+        )
     }
 }
 
