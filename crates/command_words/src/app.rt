@@ -1,7 +1,7 @@
 //! The command line as `clap` sees it.
 ghost use Rattle.clap.specs.Words.{app_of, with_subcommand};
 ghost use Rattle.clap.specs.declared.builder.command.Command.TheViews.{out-Command};
-ghost use Rattle.command_words.specs.inside.Apps.{folder_app, program_app, top_app};
+ghost use Rattle.command_words.specs.inside.Apps.{folder_app, program_app, top_app, with_folders};
 ghost use Rattle.std.specs.Prelude.{◌≡◌, false, IfOk};
 
 use clap::{Arg, Command};
@@ -24,7 +24,30 @@ fn with_folder<'a>(
 ) -> Result<Command<'a>, AllocError>
     ensures { IfOk result (λ c. app_of c ≡ with_subcommand (app_of parent.entry) (folder_app name.entry.now).top) }
 {
-    parent.subcommand(folder_command(alloc, name)?)
+    match folder_command(alloc, name) {
+        Ok(folder) => parent.subcommand(folder),
+        Err(error) => Err(refused(error, parent)),
+    }
+}
+
+// The refusal of a command of which a part was made, which is let go here.
+fn refused<T: Drop>(error: AllocError, _made: T) -> AllocError {
+    error
+}
+
+// A command with one more subcommand for each name.
+fn with_folders<'a>(
+    alloc: Global,
+    parent: Command<'a>,
+    names: &[&'a str],
+) -> Result<Command<'a>, AllocError>
+    ensures { IfOk result (λ c. app_of c ≡ with_folders (app_of parent.entry) names.now) }
+{
+    let mut command = parent;
+    for name in names {
+        command = with_folder(alloc, command, *name)?;
+    }
+    Ok(command)
 }
 
 // A command that wants one of its subcommands.
@@ -41,11 +64,6 @@ fn top_command<'a>(alloc: Global) -> Command<'a>
 pub(crate) fn program_command<'a>(alloc: Global) -> Result<Command<'a>, AllocError>
     ensures { IfOk result (λ c. app_of c ≡ program_app) }
 {
-    let top = top_command(alloc);
-    let top = with_folder(alloc, top, "define")?;
-    let top = with_folder(alloc, top, "run")?;
-    let top = with_folder(alloc, top, "show")?;
-    let top = with_folder(alloc, top, "log")?;
-    let top = with_folder(alloc, top, "migrate")?;
-    with_folder(alloc, top, "audit")
+    let names = ["define", "run", "show", "log", "migrate", "audit"];
+    with_folders(alloc, top_command(alloc), &names)
 }

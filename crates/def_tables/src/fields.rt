@@ -9,7 +9,7 @@ ghost use Rattle.def_tables.specs.Readings.{Gives, or_fault};
 ghost use Rattle.def_tables.specs.Values.{each, as_field_name, as_kind, as_length, triple_in, as_triple, as_triples};
 ghost use Rattle.def_tables.specs.Keys.{all_once};
 ghost use Rattle.def_tables.specs.Fields.{keyed, laid_out, total, fields_at};
-ghost use Rattle.def_tables.specs.inside.Fields.{IsShort};
+ghost use Rattle.def_tables.specs.inside.Fields.{IsShort, layout_of};
 ghost use Rattle.def_tables.specs.declared.fault.DefsFault.TheVariants as faults;
 
 use crate::fault::{DefsFault, bad_field};
@@ -204,9 +204,30 @@ fn names_once(alloc: Global, triples: &[Triple]) -> Result<(), DefsFault>
     all_once(alloc, &names)
 }
 
+// The fields that triples are, of at most `most` bytes, the first of them a key where one is wanted.
+#[tactic(auto, unfolding(crate::specs::inside::Fields::layout_of))]
+fn layout_of(
+    alloc: Global,
+    key_wanted: bool,
+    most: u32,
+    triples: &[Triple],
+) -> Result<Layout, DefsFault>
+    requires { AllByRecursion IsShort triples.now }
+    ensures exact { Gives (λ layout. layout) result (layout_of key_wanted most triples.now) }
+    ensures small { IfOk result (λ layout. layout.length ≤ most) }
+{
+    keyed(alloc, key_wanted, triples)?;
+    count_within(alloc, "fields", 1, 64, triples.len())?;
+    let length = total(triples);
+    count_within(alloc, "fields", 0, most, length as usize)?;
+    names_once(alloc, triples)?;
+    let fields = laid_out(alloc, triples)?;
+    Ok(Layout { fields, length })
+}
+
 /// The fields of a table, of at most `most` bytes, the first of them a key where one is wanted. A fault is at `fields`,
 /// or `Twice` with the name that occurred before.
-#[tactic(auto, unfolding(crate::specs::Fields::fields_at))]
+#[tactic(auto, unfolding(crate::specs::Fields::fields_at, crate::specs::inside::Fields::layout_of))]
 pub fn fields_at(
     alloc: Global,
     key_wanted: bool,
@@ -218,12 +239,5 @@ pub fn fields_at(
 {
     let value = needed(alloc, "fields", table)?;
     let read = triples_in(alloc, value)?;
-    let triples = read.as_slice();
-    keyed(alloc, key_wanted, triples)?;
-    count_within(alloc, "fields", 1, 64, triples.len())?;
-    let length = total(triples);
-    count_within(alloc, "fields", 0, most, length as usize)?;
-    names_once(alloc, triples)?;
-    let fields = laid_out(alloc, triples)?;
-    Ok(Layout { fields, length })
+    layout_of(alloc, key_wanted, most, read.as_slice())
 }

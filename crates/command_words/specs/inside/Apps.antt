@@ -1,6 +1,7 @@
 -- The command line as `clap` sees it: a command without a reading of its own, and a subcommand with a folder for each
 -- name.
-use Rattle.std.specs.Prelude.{[], codes, true}
+use Rattle.std.specs.Borrow.{Bor}
+use Rattle.std.specs.Prelude.{List, [], ◌∷◌, codes, true}
 use Rattle.clap.specs.Words.{App, Text, new_app, new_rule, with_rule, with_subcommand}
 
 -- a subcommand that wants a folder
@@ -14,6 +15,11 @@ top_app = record {
       { no_binary_name = true; disable_help_subcommand = true; subcommand_required = true };
   subs = [];
 }
+
+-- a command with one more subcommand for each name
+abbrev pub with_folders : App → List (Bor Text) → App
+with_folders app [] = app
+with_folders app (name ∷ names) = with_folders (with_subcommand app (folder_app name.now).top) names
 
 abbrev pub program_app : App
 program_app =
