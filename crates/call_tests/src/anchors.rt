@@ -3,14 +3,14 @@ ghost use Rattle.fp_model.specs.WellFormed.{AreDefs};
 ghost use Rattle.past_anchors.specs.Databases.{AreDedbsOf, FitsCommit};
 ghost use Rattle.std.specs.Prelude.{OnOk};
 
-use crate::customers::{anchor_of, customer, definitions, dependents};
+use crate::customers::{DEFINITIONS, anchor_of, customer, dependents};
+use crate::systems::defs_of;
 use fp_model::{AnchorChange, Defs, List, SeqInsert};
 use past_anchors::{Anchors, Full};
 use std::alloc::Global;
 use std::test::Fail;
 
 /// A step, with what is to come of it.
-#[derive(Clone, Copy)]
 enum Deed {
     /// A customer stands alone at the anchor of its key.
     Put(&'static [u8]),
@@ -135,7 +135,7 @@ fn act(alloc: Global, anchors: &mut Anchors, defs: &Defs, deed: &Deed) -> Result
 
 // The first step that comes out otherwise; the number of steps where there is none.
 fn first_wrong(alloc: Global, deeds: &[Deed]) -> Result<usize, Fail> {
-    let defs = definitions(alloc)?;
+    let defs = defs_of(alloc, DEFINITIONS)?;
     let mut anchors = Anchors::new(alloc, &defs)?;
     for at in 0..deeds.len() {
         if !act(alloc, &mut anchors, &defs, &deeds[at])? {

@@ -6,7 +6,7 @@ ghost use Rattle.std.specs.Prelude.{◌≡◌};
 use self::Ended::{
     Deadlock, Device, Done, Format, Full, Old, Purge, Repeat, Roll, Unknown, Verify,
 };
-use crate::systems::{SAMPLE, System, TELLERS, exits};
+use crate::systems::{SAMPLE, System, TELLERS};
 use fp_audit::Auditor;
 use fp_exits::Exits;
 use fp_model::{Bytes, Entry, List, Outcome};
@@ -14,7 +14,6 @@ use std::alloc::{AllocError, Global};
 use std::test::Fail;
 
 /// How an entry ended, as its outcome and its reply.
-#[derive(Clone, Copy)]
 enum Ended {
     Done(&'static [u8]),
     // A verify failed: the call, its search argument, and the four bytes found as one number.
@@ -148,43 +147,68 @@ const NOT_OF_CUSTOMERS: &[(usize, Row)] = &[
     (13, (13, &[], b"T2 OWES C003 L1", Done(b"60"))),
 ];
 
-fn outcome(alloc: Global, ended: Ended) -> Result<Outcome, AllocError> {
-    Ok(match ended {
+// The outcome, with these bytes if it has any: those found, the regions of a cycle, or a line.
+fn outcome(ended: &Ended, bytes: Bytes) -> Outcome {
+    match *ended {
         Done(_) => Outcome::Done,
-        Verify(call, fsa, found) => Outcome::Verify {
+        Verify(call, fsa, _) => Outcome::Verify {
             call,
             fsa,
-            found: Bytes::from_slice(alloc, &found.to_be_bytes())?,
+            found: bytes,
         },
         Roll(code) => Outcome::Roll(code),
-        Deadlock => Outcome::Deadlock(Bytes::from_slice(alloc, &[2, 1])?),
+        Deadlock => Outcome::Deadlock(bytes),
         Device => Outcome::Device,
         Unknown => Outcome::Unknown,
         Old(last) => Outcome::Old(last),
-        Repeat(line) => Outcome::Repeat(Bytes::from_slice(alloc, line)?),
+        Repeat(_) => Outcome::Repeat(bytes),
         Full(set, begin, end, n) => Outcome::SeqFull { set, begin, end, n },
         Purge(set, n) => Outcome::Purge { set, n },
         Format => Outcome::Format,
-    })
+    }
 }
 
-fn reply(ended: Ended) -> &'static [u8] {
-    match ended {
+// The bytes of an outcome.
+fn bytes_of(alloc: Global, ended: &Ended) -> Result<Bytes, AllocError> {
+    match *ended {
+        Verify(_, _, found) => Bytes::from_slice(alloc, &found.to_be_bytes()),
+        Deadlock => Bytes::from_slice(alloc, &[2, 1]),
+        Repeat(line) => Bytes::from_slice(alloc, line),
+        _ => Ok(Bytes::new(alloc)),
+    }
+}
+
+fn reply(ended: &Ended) -> &'static [u8] {
+    match *ended {
         Done(reply) => reply,
         _ => &[],
     }
 }
 
-fn entry(alloc: Global, row: Row) -> Result<Entry, AllocError> {
-    let (from, notes, line, ended) = row;
+fn entry_of(
+    alloc: Global,
+    from: u64,
+    notes: &[u64],
+    line: &[u8],
+    ended: &Ended,
+) -> Result<Entry, AllocError> {
+    let notes = Vec::from_slice(alloc, notes)?;
+    let line = Bytes::from_slice(alloc, line)?;
+    let reply = Bytes::from_slice(alloc, reply(ended))?;
+    let bytes = bytes_of(alloc, ended)?;
     Ok(Entry {
         from,
-        outcome: outcome(alloc, ended)?,
-        line: Bytes::from_slice(alloc, line)?,
-        reply: Bytes::from_slice(alloc, reply(ended))?,
-        notes: List::from_vec(Vec::from_slice(alloc, notes)?),
+        outcome: outcome(ended, bytes),
+        line,
+        reply,
+        notes: List::from_vec(notes),
         items: List::new(alloc),
     })
+}
+
+fn entry(alloc: Global, row: &Row) -> Result<Entry, AllocError> {
+    let (from, notes, line, ended) = row;
+    entry_of(alloc, *from, notes, line, ended)
 }
 
 // Hands rows to an auditor one after another. The place of the first that isn't legal.
@@ -198,13 +222,16 @@ fn first_illegal(
     ensures { auditor.new.defs ≡ auditor.old.defs }
 {
     for (place, row) in rows.iter().enumerate() {
-        let entry = entry(alloc, *row)?;
+        let entry = entry(alloc, row)?;
         if !auditor.next(exits, &entry)? {
             return Ok(Some(place));
         }
     }
     Ok(None)
 }
+
+// How a deposit ends.
+static NEW: Ended = Done(b"NEW");
 
 // Whether so many deposits to one account, one after another, are all legal.
 fn deposits_are_legal(
@@ -216,8 +243,7 @@ fn deposits_are_legal(
     requires { AreSpread auditor.old.defs (kinds_of exits.now) }
 {
     for place in 0..count {
-        let mut deposit = entry(alloc, (place, &[], b"T1 DEPOSIT A001 10", Done(b"NEW")))?;
-        deposit.notes.push(place)?;
+        let deposit = entry_of(alloc, place, &[place], b"T1 DEPOSIT A001 10", &NEW)?;
         if !auditor.next(exits, &deposit)? {
             return Ok(false);
         }
@@ -225,23 +251,36 @@ fn deposits_are_legal(
     Ok(true)
 }
 
-// The place of the first row that isn't legal, in a log and in rows behind it.
+// Whether a row is legal, if there is one.
+fn is_legal(
+    alloc: Global,
+    auditor: &mut Auditor,
+    exits: &Exits,
+    row: Option<&Row>,
+) -> Result<bool, AllocError>
+    requires { AreSpread auditor.old.defs (kinds_of exits.now) }
+{
+    match row {
+        Some(row) => auditor.next(exits, &entry(alloc, row)?),
+        None => Ok(true),
+    }
+}
+
+// The place of the first row that isn't legal in a log, and whether the row behind it is.
 fn judged(
     alloc: Global,
-    system: System,
+    system: &System,
     log: &[Row],
-    behind: &[Row],
-) -> Result<(Option<usize>, Option<usize>), Fail> {
-    let exits = exits(alloc)?;
-    let defs = system.definitions(alloc, &exits)?;
-    let scripts = system.scripts(alloc, &defs, &exits)?;
-    let mut auditor = Auditor::new(alloc, &defs, &scripts, 1)?;
-    let found = first_illegal(alloc, &mut auditor, &exits, log)?;
-    Ok((found, first_illegal(alloc, &mut auditor, &exits, behind)?))
+    behind: Option<&Row>,
+) -> Result<(Option<usize>, bool), Fail> {
+    let ground = system.read(alloc)?;
+    let mut auditor = Auditor::new(alloc, &ground.defs, &ground.scripts, 1)?;
+    let found = first_illegal(alloc, &mut auditor, &ground.exits, log)?;
+    let is_legal = is_legal(alloc, &mut auditor, &ground.exits, behind)?;
+    Ok((found, is_legal))
 }
 
 // A log of legal entries of a system, and entries that aren't legal behind so many of it.
-#[derive(Clone, Copy)]
 struct Log(System, &'static [Row], &'static [(usize, Row)]);
 
 static LOGS: [Log; 4] = [
@@ -255,17 +294,17 @@ static LOGS: [Log; 4] = [
 #[test]
 fn each_entry_of_a_log_is_legal(rt: HostRuntime) -> Result<(), Fail> {
     for (at, Log(system, legal, _)) in LOGS.iter().enumerate() {
-        let (found, _) = judged(rt.alloc(), *system, legal, &[])?;
+        let (found, _) = judged(rt.alloc(), system, legal, None)?;
         assert!(rt; found.is_none(), "log {at}, row {found:?}");
     }
     Ok(())
 }
 
 // Whether a row isn't legal behind so many of a log, which are.
-fn is_refused(alloc: Global, log: &Log, front: usize, row: Row) -> Result<bool, Fail> {
+fn is_refused(alloc: Global, log: &Log, front: usize, row: &Row) -> Result<bool, Fail> {
     let Log(system, legal, _) = log;
-    let found = judged(alloc, *system, &legal[..front.min(legal.len())], &[row])?;
-    Ok(matches!(found, (None, Some(0))))
+    let found = judged(alloc, system, &legal[..front.min(legal.len())], Some(row))?;
+    Ok(matches!(found, (None, false)))
 }
 
 #[test]
@@ -273,7 +312,7 @@ fn an_entry_that_the_rules_do_not_let_come_is_illegal(rt: HostRuntime) -> Result
     for (at, log) in LOGS.iter().enumerate() {
         for (place, (front, row)) in log.2.iter().enumerate() {
             assert!(rt;
-                is_refused(rt.alloc(), log, *front, *row)?,
+                is_refused(rt.alloc(), log, *front, row)?,
                 "log {at}, row {place}"
             );
         }
@@ -288,12 +327,12 @@ static BROKEN: [Row; 2] = [
 ];
 
 // It would be legal behind the first of them.
-static BEHIND: [Row; 1] = [(0, &[0], b"T2 ASK A001", Done(b"100"))];
+static BEHIND: Row = (0, &[0], b"T2 ASK A001", Done(b"100"));
 
 #[test]
 fn an_auditor_stops_for_good(rt: HostRuntime) -> Result<(), Fail> {
-    let found = judged(rt.alloc(), SAMPLE, &BROKEN, &BEHIND)?;
-    assert!(rt; matches!(found, (Some(1), Some(0))));
+    let found = judged(rt.alloc(), &SAMPLE, &BROKEN, Some(&BEHIND))?;
+    assert!(rt; matches!(found, (Some(1), false)));
     Ok(())
 }
 
@@ -301,11 +340,8 @@ fn an_auditor_stops_for_good(rt: HostRuntime) -> Result<(), Fail> {
 #[test]
 fn each_entry_of_a_long_log_is_legal(rt: HostRuntime) -> Result<(), Fail> {
     let alloc = rt.alloc();
-    let exits = exits(alloc)?;
-    let defs = SAMPLE.definitions(alloc, &exits)?;
-    let scripts = SAMPLE.scripts(alloc, &defs, &exits)?;
-    let mut auditor = Auditor::new(alloc, &defs, &scripts, 1)?;
-    let legal = deposits_are_legal(alloc, &mut auditor, &exits, 5_000)?;
-    assert!(rt; legal);
+    let ground = SAMPLE.read(alloc)?;
+    let mut auditor = Auditor::new(alloc, &ground.defs, &ground.scripts, 1)?;
+    assert!(rt; deposits_are_legal(alloc, &mut auditor, &ground.exits, 5_000)?);
     Ok(())
 }

@@ -10,16 +10,14 @@ ghost use Rattle.state_laws.specs.Parts.{FitsAnchorChange, FitsSeqInsert};
 ghost use Rattle.std.specs.List.{AllByRecursion};
 ghost use Rattle.std.specs.Prelude.{◌≡◌, ◌∷◌, [], IfOk, IfSome, List as ListOf};
 
-use crate::systems::exits;
 use dli_tree::{Path, Step, insert, key_in};
-use fp_defs::read_defs;
 use fp_exits::{fold_place, range_place};
 use fp_model::{AnchorChange, Bytes, DedbDef, Defs, Kind, List, Root, SegDef, SeqInsert};
 use std::alloc::Global;
 use std::test::Fail;
 
 /// Twelve anchors of customers, eight of them in the first area, and a database without sequential dependents.
-const DEFINITIONS: &str = r#"regions = [1]
+pub(crate) const DEFINITIONS: &str = r#"regions = [1]
 router = "FOLD"
 [[dedb]]
 name = "CUST"
@@ -65,14 +63,6 @@ overflow = 1
 
 /// What a sequential dependent holds.
 const WHAT: &[u8] = b"DEPOSIT ";
-
-/// The definitions.
-pub(crate) fn definitions(alloc: Global) -> Result<Defs, Fail>
-    ensures { IfOk result AreDefs }
-{
-    let exits = exits(alloc)?;
-    Ok(read_defs(alloc, DEFINITIONS.as_bytes(), &exits)?)
-}
 
 // How many anchors a database has.
 fn anchor_count(def: &DedbDef) -> u64

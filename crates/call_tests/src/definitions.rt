@@ -4,7 +4,7 @@ ghost use Rattle.std.specs.Prelude.{IfOk};
 
 use crate::systems::{FOLD, SAMPLE, exits_of};
 use fp_defs::{DefsFault, read_defs};
-use fp_model::{Defs, FieldKind, Kind, Name};
+use fp_model::{AreaDef, Bytes, Defs, FieldDef, FieldKind, Kind, Name, SegDef};
 use std::alloc::{AllocError, Global};
 use std::test::Fail;
 
@@ -33,7 +33,6 @@ pub(crate) fn sample(alloc: Global) -> Result<Defs, DefsFault>
 }
 
 // What is wanted of a text.
-#[derive(Clone, Copy)]
 enum Reading {
     Good,
     NotToml,
@@ -44,13 +43,13 @@ enum Reading {
 }
 
 // Whether a text was read so.
-fn is_read(found: &Result<Defs, DefsFault>, wanted: Reading) -> bool {
+fn is_read(found: &Result<Defs, DefsFault>, wanted: &Reading) -> bool {
     match (found, wanted) {
         (Ok(_), Reading::Good)
         | (Err(DefsFault::NotToml), Reading::NotToml)
         | (Err(DefsFault::TooLong), Reading::TooLong) => true,
-        (Err(DefsFault::Missing(key)), Reading::Missing(wanted)) => key.as_slice() == wanted,
-        (Err(DefsFault::NoExit(kind)), Reading::NoExit(wanted)) => *kind == wanted,
+        (Err(DefsFault::Missing(key)), Reading::Missing(wanted)) => key.as_slice() == *wanted,
+        (Err(DefsFault::NoExit(kind)), Reading::NoExit(wanted)) => kind == wanted,
         _ => false,
     }
 }
@@ -75,26 +74,33 @@ fn is_top(defs: &Defs) -> bool {
 
 // The first main storage database, and that there are two.
 fn is_accounts(defs: &Defs) -> bool {
-    let (Some(accounts), Some(tellers)) = (defs.msdbs.get(0), defs.msdbs.get(1)) else {
-        return false;
-    };
-    let (Some(key), Some(balance)) = (accounts.fields.get(0), accounts.fields.get(1)) else {
-        return false;
-    };
-    let (Some(first), Some(second)) = (accounts.load.get(0), accounts.load.get(1)) else {
+    let [accounts, tellers] = defs.msdbs.as_slice() else {
         return false;
     };
     accounts.name == Name(*b"ACCTS   ")
-        && !accounts.dynamic
-        && tellers.dynamic
+        && [accounts.dynamic, tellers.dynamic] == [false, true]
         && accounts.length == 8
-        && key.kind == FieldKind::C
+        && are_fields(accounts.fields.as_slice())
+        && is_load(accounts.load.as_slice())
+}
+
+// The fields of an account: the kind of its key, and its balance.
+fn are_fields(fields: &[FieldDef]) -> bool {
+    let [key, balance, ..] = fields else {
+        return false;
+    };
+    matches!((key.kind, balance.kind), (FieldKind::C, FieldKind::P))
         && balance.name == Name(*b"BAL     ")
-        && balance.kind == FieldKind::P
         && balance.at == 4
-        && first.as_slice() == b"A002\x00\x00\x05\x0c".as_slice()
+}
+
+// The accounts that are loaded.
+fn is_load(load: &[Bytes]) -> bool {
+    let [first, second, ..] = load else {
+        return false;
+    };
+    first.as_slice() == b"A002\x00\x00\x05\x0c".as_slice()
         && second.as_slice() == b"A001\x00\x00\x10\x0c".as_slice()
-        && defs.msdbs.len() == 2
 }
 
 // The data entry database: its segments and its areas.
@@ -102,29 +108,32 @@ fn is_customers(defs: &Defs) -> bool {
     let Some(customers) = defs.dedbs.get(0) else {
         return false;
     };
-    let (Some(root), Some(audit), Some(loan)) = (
-        customers.segments.get(0),
-        customers.segments.get(1),
-        customers.segments.get(2),
-    ) else {
-        return false;
-    };
-    let Some(area) = customers.areas.get(1) else {
-        return false;
-    };
     customers.ci == 512
-        && root.length == 16
-        && root.parent.is_none()
-        && audit.sequential
-        && audit.parent == Some(0)
-        && !loan.sequential
-        && loan.parent == Some(0)
-        && loan.length == 6
-        && area.name == Name(*b"AREA2   ")
-        && area.uows == 2
-        && area.base == 2
-        && area.overflow == 1
-        && area.capacity == 4
+        && are_segments(customers.segments.as_slice())
+        && is_area(customers.areas.as_slice())
+}
+
+// The segment types of a customer.
+fn are_segments(types: &[SegDef]) -> bool {
+    let [root, audit, loan, ..] = types else {
+        return false;
+    };
+    [root.length, loan.length] == [16, 6]
+        && [audit.sequential, loan.sequential] == [true, false]
+        && matches!(
+            (root.parent, audit.parent, loan.parent),
+            (None, Some(0), Some(0))
+        )
+}
+
+// The second area.
+fn is_area(areas: &[AreaDef]) -> bool {
+    let Some(area) = areas.get(1) else {
+        return false;
+    };
+    area.name == Name(*b"AREA2   ")
+        && [area.base, area.overflow] == [2, 1]
+        && [area.uows, area.capacity] == [2, 4]
 }
 
 // Whether so many lines of 10 bytes each with a comment, and a text behind them, are read so.
@@ -132,7 +141,7 @@ fn is_long_read(
     alloc: Global,
     lines: u32,
     text: &str,
-    wanted: Reading,
+    wanted: &Reading,
 ) -> Result<bool, AllocError> {
     let mut whole = String::new(alloc);
     for _ in 0..lines {
@@ -149,7 +158,7 @@ static LONG: [(&str, Reading); 2] = [("", Reading::Missing(b"regions")), ("#", R
 #[test]
 fn a_text_has_at_most_1000000_bytes(rt: HostRuntime) -> Result<(), Fail> {
     for (text, wanted) in &LONG {
-        assert!(rt; is_long_read(rt.alloc(), 100_000, text, *wanted)?);
+        assert!(rt; is_long_read(rt.alloc(), 100_000, text, wanted)?);
     }
     Ok(())
 }
@@ -222,7 +231,7 @@ static TEXTS: [(&[u8], &[Kind], &[Kind], Reading); 12] = [
 fn texts_have_their_first_fault(rt: HostRuntime) -> Result<(), Fail> {
     for (place, (text, routing, spreading, wanted)) in TEXTS.iter().enumerate() {
         let found = read_with(rt.alloc(), text, routing, spreading);
-        assert!(rt; is_read(&found, *wanted), "text {place}");
+        assert!(rt; is_read(&found, wanted), "text {place}");
     }
     Ok(())
 }

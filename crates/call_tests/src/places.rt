@@ -6,7 +6,6 @@ use past_segments::PastSegments;
 use std::test::Fail;
 
 /// A step, with its place. Keys have 2 bytes.
-#[derive(Clone, Copy)]
 enum Step {
     Put(u64, &'static [u8]),
     TakeAway(u64, &'static [u8]),
@@ -81,7 +80,7 @@ fn run_steps(rt: &HostRuntime, steps: &[Step]) -> Result<bool, Fail> {
 }
 
 /// Each place shows what stood there, whatever came behind it.
-static OLDER: [Step; 12] = [
+const OLDER: &[Step] = &[
     Step::Put(0, b"B1zero"),
     Step::Put(3, b"B1three"),
     Step::Put(5, b"A1five"),
@@ -97,7 +96,7 @@ static OLDER: [Step; 12] = [
 ];
 
 /// Searches in the order of keys pass what isn't there at the place.
-static IN_ORDER: [Step; 10] = [
+const IN_ORDER: &[Step] = &[
     Step::Put(0, b"C1"),
     Step::Put(1, b"A1"),
     Step::Put(2, b"B1"),
@@ -111,7 +110,7 @@ static IN_ORDER: [Step; 10] = [
 ];
 
 /// A change at the same place goes over the first, and what is taken back leaves the earlier value.
-static BACK: [Step; 10] = [
+const BACK: &[Step] = &[
     Step::Put(0, b"A1old"),
     Step::Put(6, b"A1new"),
     Step::Put(6, b"A1newer"),
@@ -124,20 +123,16 @@ static BACK: [Step; 10] = [
     Step::After(9, Some(b"A1"), None),
 ];
 
-#[test]
-fn an_older_place_shows_an_older_segment(rt: HostRuntime) -> Result<(), Fail> {
-    assert!(rt; run_steps(&rt, &OLDER)?);
-    Ok(())
-}
+static RUNS: [(&str, &[Step]); 3] = [
+    ("an older place shows an older segment", OLDER),
+    ("a search passes what is not there", IN_ORDER),
+    ("what is taken back leaves the earlier segment", BACK),
+];
 
 #[test]
-fn a_search_passes_what_is_not_there(rt: HostRuntime) -> Result<(), Fail> {
-    assert!(rt; run_steps(&rt, &IN_ORDER)?);
-    Ok(())
-}
-
-#[test]
-fn what_is_taken_back_leaves_the_earlier_segment(rt: HostRuntime) -> Result<(), Fail> {
-    assert!(rt; run_steps(&rt, &BACK)?);
+fn places_show_their_segments(rt: HostRuntime) -> Result<(), Fail> {
+    for (name, steps) in &RUNS {
+        assert!(rt; run_steps(&rt, steps)?, "{name}");
+    }
     Ok(())
 }

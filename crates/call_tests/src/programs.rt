@@ -14,7 +14,6 @@ use txn_lang::Scripts;
 use txn_machine::{Next, Program};
 
 // A call that is wanted, as `spelled` spells it, and what it is answered.
-#[derive(Clone, Copy)]
 enum Turn {
     // A status alone.
     Told(&'static [u8], [u8; 2]),
@@ -33,7 +32,6 @@ impl Turn {
 }
 
 // How a script ends.
-#[derive(Clone, Copy)]
 enum End {
     Reply(&'static [u8]),
     Roll(u16),
@@ -146,12 +144,17 @@ fn answer(alloc: Global, turn: &Turn) -> Result<Answer, AllocError> {
     })
 }
 
-fn is_end(end: End, next: &Next) -> bool {
+fn is_end(end: &End, next: &Next) -> bool {
     match (end, next) {
-        (End::Reply(wanted), Next::Reply(text)) => text.as_slice() == wanted,
-        (End::Roll(wanted), Next::Roll(code)) => *code == wanted,
+        (End::Reply(wanted), Next::Reply(text)) => text.as_slice() == *wanted,
+        (End::Roll(wanted), Next::Roll(code)) => code == wanted,
         _ => false,
     }
+}
+
+// Whether a call is the one that a turn wants.
+fn is_asked(alloc: Global, asked: &Call, turn: &Turn) -> Result<bool, AllocError> {
+    Ok(spelled(alloc, asked)?.as_slice() == turn.wanted())
 }
 
 // ---- runs
@@ -161,26 +164,22 @@ fn follows(
     scripts: &Scripts,
     defs: &Defs,
     message: &Message,
-    program: Program,
+    program: &mut Program,
     turns: &[Turn],
-    end: End,
+    end: &End,
     alloc: Global,
 ) -> Result<bool, AllocError>
-    requires { program.number < length scripts.now.scripts }
+    requires { program.old.number < length scripts.now.scripts }
 {
-    let mut program = program;
     for turn in turns {
-        let answer = answer(alloc, turn)?;
         let _ = program.next(scripts, defs, message)?;
-        match program.next(scripts, defs, message)? {
-            Next::Call(asked) => {
-                if spelled(alloc, &asked)?.as_slice() != turn.wanted() {
-                    return Ok(false);
-                }
-                program.give(answer)
-            }
-            _ => return Ok(false),
+        let Next::Call(asked) = program.next(scripts, defs, message)? else {
+            return Ok(false);
+        };
+        if !is_asked(alloc, &asked, turn)? {
+            return Ok(false);
         }
+        program.give(answer(alloc, turn)?);
     }
     Ok(is_end(end, &program.next(scripts, defs, message)?))
 }
@@ -193,18 +192,35 @@ fn number_of(scripts: &Scripts, tran: Name) -> Option<u32>
 }
 
 // A transaction, the text of its message, the turns that it makes, and how it ends.
-#[derive(Clone, Copy)]
 struct Case(&'static [u8; 8], &'static [u8], &'static [Turn], End);
 
-// Whether a case goes so, where these are the scripts.
-fn goes(alloc: Global, text: &[u8], case: &Case) -> Result<bool, Fail> {
+// Whether a transaction of these scripts goes so.
+fn runs(
+    alloc: Global,
+    scripts: &Scripts,
+    defs: &Defs,
+    message: &Message,
+    turns: &[Turn],
+    end: &End,
+) -> Result<bool, Fail> {
+    let number = number_of(scripts, message.tran).ok_or("no such transaction")?;
+    let mut program = Program::start(alloc, scripts, number);
+    Ok(follows(scripts, defs, message, &mut program, turns, end, alloc)?)
+}
+
+// Whether the transaction goes so, where these are the scripts.
+fn goes(
+    alloc: Global,
+    text: &[u8],
+    tran: &[u8; 8],
+    words: &[u8],
+    turns: &[Turn],
+    end: &End,
+) -> Result<bool, Fail> {
+    let message = message(alloc, Name(*tran), words)?;
     let defs = sample(alloc)?;
     let scripts = read(alloc, text, &defs)?;
-    let tran = Name(*case.0);
-    let number = number_of(&scripts, tran).ok_or("no such transaction")?;
-    let message = message(alloc, tran, case.1)?;
-    let program = Program::start(alloc, &scripts, number);
-    Ok(follows(&scripts, &defs, &message, program, case.2, case.3, alloc)?)
+    runs(alloc, &scripts, &defs, &message, turns, end)
 }
 
 // A customer with ten notes, all alike: no eleventh is asked for.
@@ -435,8 +451,9 @@ static CASES: [Case; 30] = [
 
 #[test]
 fn scripts_ask_their_calls_and_end(rt: HostRuntime) -> Result<(), Fail> {
-    for (place, case) in CASES.iter().enumerate() {
-        assert!(rt; goes(rt.alloc(), SAMPLE.scripts, case)?, "case {place}");
+    for (place, Case(tran, words, turns, end)) in CASES.iter().enumerate() {
+        let is_so = goes(rt.alloc(), SAMPLE.scripts, tran, words, turns, end)?;
+        assert!(rt; is_so, "case {place}");
     }
     Ok(())
 }
@@ -444,13 +461,9 @@ fn scripts_ask_their_calls_and_end(rt: HostRuntime) -> Result<(), Fail> {
 // ---- lines without calls
 
 // Whether the transaction A of some lines, with a message of two words, ends so.
-fn ends(alloc: Global, lines: &str, end: End) -> Result<bool, Fail> {
+fn ends(alloc: Global, lines: &str, end: &End) -> Result<bool, Fail> {
     let text = format!(in alloc; "TRAN A\n{lines}\n")?;
-    goes(
-        alloc,
-        text.as_bytes(),
-        &Case(b"A       ", b" ab cd ", &[], end),
-    )
+    goes(alloc, text.as_bytes(), b"A       ", b" ab cd ", &[], end)
 }
 
 static LINES: [(&str, End); 27] = [
@@ -520,7 +533,7 @@ static LINES: [(&str, End); 27] = [
 #[test]
 fn lines_without_calls_end(rt: HostRuntime) -> Result<(), Fail> {
     for (lines, end) in &LINES {
-        assert!(rt; ends(rt.alloc(), lines, *end)?, "{lines}");
+        assert!(rt; ends(rt.alloc(), lines, end)?, "{lines}");
     }
     Ok(())
 }

@@ -385,7 +385,6 @@ fn mixed_calls_meet_a_plain_list(rt: HostRuntime) -> Result<(), Fail> {
 // ---- queues by hand
 
 // A queue of two calls, how many items it has or which call fails with which bytes found, and all segments behind it.
-#[derive(Clone, Copy)]
 struct Row {
     calls: [Step; 2],
     wanted: Result<usize, (u32, u16, &'static [u8])>,
@@ -427,7 +426,7 @@ static ROWS: [Row; 5] = [
 ];
 
 // The outcome of a row as the store tells it.
-fn outcome(alloc: Global, row: Row) -> Result<usize, VerifyFault> {
+fn outcome(alloc: Global, row: &Row) -> Result<usize, VerifyFault> {
     match row.wanted {
         Ok(items) => Ok(items),
         Err((call, fsa, found)) => Err(failure(alloc, call, fsa, found)),
@@ -446,7 +445,7 @@ pub(crate) fn segments(alloc: Global, store: &MsdbStore) -> Result<Bytes, AllocE
 }
 
 // Settles the queue of a row on the store. Whether it comes to what is wanted.
-fn goes(alloc: Global, store: &mut MsdbStore, row: Row) -> Result<bool, VerifyFault>
+fn goes(alloc: Global, store: &mut MsdbStore, row: &Row) -> Result<bool, VerifyFault>
     requires { (defs : ListOf DefOf) × (def : DefOf) × (defs ≡ def ∷ []) × IsMsdbDef def × (def.length ≡ 8)
         × (key_length def.fields ≡ 4) × IsOf defs store.old }
     ensures { (defs : ListOf DefOf) → (def : DefOf) → defs ≡ def ∷ [] → IsMsdbDef def → def.length ≡ 8
@@ -464,7 +463,7 @@ fn queues_come_to_what_is_wanted(rt: HostRuntime) -> Result<(), Fail> {
     let defs = defs(alloc, true)?;
     let mut store = MsdbStore::start(alloc, &defs)?;
     for (place, row) in ROWS.iter().enumerate() {
-        assert!(rt; goes(alloc, &mut store, *row)?, "row {place}");
+        assert!(rt; goes(alloc, &mut store, row)?, "row {place}");
     }
     Ok(())
 }

@@ -7,18 +7,15 @@ ghost use Rattle.past_segments.specs.Times.{IsSettledBy};
 ghost use Rattle.std.specs.List.{AllByRecursion};
 ghost use Rattle.std.specs.Prelude.{◌≡◌, ◌+◌, ◌<◌, ◌≤◌, ◌^◌, IfOk, IfSome, OnOk};
 
-use crate::systems::{TELLERS, exits, message};
-use fp_exits::Exits;
-use fp_model::{Bytes, Defs, List, Message, Name, Outcome, key_length};
+use crate::systems::{Ground, TELLERS, message};
+use fp_model::{Defs, List, Name, Outcome, key_length};
 use past_anchors::Anchors;
 use past_replay::{Alone, replay};
 use past_segments::PastSegments;
 use std::alloc::{AllocError, Global};
 use std::test::Fail;
-use txn_lang::Scripts;
 
 /// What running an entry alone comes to.
-#[derive(Clone, Copy)]
 enum Ended {
     /// Done, with this reply.
     Done(&'static [u8]),
@@ -28,34 +25,37 @@ enum Ended {
     Stuck,
 }
 
+impl Ended {
+    fn reply(&self) -> &'static [u8] {
+        match *self {
+            Ended::Done(reply) => reply,
+            _ => b"",
+        }
+    }
+}
+
 /// The transaction, the text of its message, its notes, and what it comes to.
-#[derive(Clone, Copy)]
 struct Entry(&'static [u8; 8], &'static [u8], &'static [u64], Ended);
 
 // Whether it came to this.
-fn is_so(alone: &Alone, ended: Ended) -> bool {
+fn is_so(alone: &Alone, ended: &Ended) -> bool {
     match (alone, ended) {
-        (Alone::Ends { outcome, reply }, Ended::Done(wanted)) => {
-            matches!(outcome, Outcome::Done) && reply.as_slice() == wanted
-        }
-        (Alone::Ends { outcome, reply }, Ended::Verify(call, fsa, found)) => {
-            is_verify(outcome, call, fsa, found) && reply.is_empty()
-        }
-        (Alone::Ends { outcome, reply }, Ended::Roll(code)) => {
-            matches!(outcome, Outcome::Roll(n) if *n == code) && reply.is_empty()
+        (Alone::Ends { outcome, reply }, ended) => {
+            is_outcome(outcome, ended) && reply.as_slice() == ended.reply()
         }
         (Alone::Stuck, Ended::Stuck) => true,
         _ => false,
     }
 }
 
-fn is_verify(outcome: &Outcome, call: u32, fsa: u16, found: &[u8]) -> bool {
-    match outcome {
-        Outcome::Verify {
-            call: c,
-            fsa: f,
-            found: bytes,
-        } => *c == call && *f == fsa && bytes.as_slice() == found,
+// Whether an entry ends with this outcome.
+fn is_outcome(outcome: &Outcome, ended: &Ended) -> bool {
+    match (outcome, ended) {
+        (Outcome::Done, Ended::Done(_)) => true,
+        (Outcome::Verify { call, fsa, found }, Ended::Verify(c, f, bytes)) => {
+            call == c && fsa == f && found.as_slice() == *bytes
+        }
+        (Outcome::Roll(code), Ended::Roll(wanted)) => code == wanted,
         _ => false,
     }
 }
@@ -74,39 +74,6 @@ fn notes(alloc: Global, entry: &Entry, place: u64) -> Result<Option<List<u64>>, 
     Ok(Some(notes))
 }
 
-// Runs an entry again at a place. Whether it comes to what it says.
-fn rerun(
-    alloc: Global,
-    pasts: &mut [PastSegments],
-    anchors: &mut Anchors,
-    defs: &Defs,
-    scripts: &Scripts,
-    exits: &Exits,
-    place: u64,
-    entry: &Entry,
-) -> Result<bool, AllocError>
-    requires setup { IsSetup defs.now (kinds_of exits.now) scripts.now.scripts }
-    requires are { ArePastsOf defs.now.msdbs pasts.old }
-    requires settled { AllByRecursion (IsSettledBy place) pasts.old }
-    requires shape { AreDedbsOf defs.now anchors.old }
-    requires place { place + 1 < 2 ^ 64 }
-    ensures are { ArePastsOf defs.now.msdbs pasts.new }
-    ensures settled { AllByRecursion (IsSettledBy (place + 1)) pasts.new }
-    ensures shape { OnOk result (AreDedbsOf defs.now anchors.new) }
-{
-    let message = message(alloc, Name(*entry.0), entry.1)?;
-    let Some(notes) = notes(alloc, entry, place)? else {
-        return Ok(false);
-    };
-    let Some(number) = scripts.find(&message.tran) else {
-        return Ok(false);
-    };
-    let alone = replay(
-        alloc, pasts, anchors, defs, scripts, exits, place, &message, number, &notes,
-    )?;
-    Ok(is_so(&alone, entry.3))
-}
-
 // The one main storage database, without segments.
 fn empty(alloc: Global, defs: &Defs) -> Result<Vec<PastSegments>, Fail>
     ensures are { IfOk result (λ pasts. ArePastsOf defs.now.msdbs pasts.items) }
@@ -122,33 +89,55 @@ fn empty(alloc: Global, defs: &Defs) -> Result<Vec<PastSegments>, Fail>
     Ok(pasts)
 }
 
-/// Runs entries again, each at its place in the list. The first that comes to something else.
-fn run_entries(alloc: Global, entries: &[Entry]) -> Result<Option<usize>, Fail> {
-    let exits = exits(alloc)?;
-    let defs = TELLERS.definitions(alloc, &exits)?;
-    let scripts = TELLERS.scripts(alloc, &defs, &exits)?;
-    let mut pasts = empty(alloc, &defs)?;
-    let mut anchors = Anchors::new(alloc, &defs)?;
+// Runs entries again on databases without segments, each at its place in the list. The first that comes to something
+// else.
+fn first_other(
+    alloc: Global,
+    pasts: &mut [PastSegments],
+    anchors: &mut Anchors,
+    ground: &Ground,
+    entries: &[Entry],
+) -> Result<Option<usize>, AllocError>
+    requires setup { IsSetup ground.now.defs (kinds_of ground.now.exits) ground.now.scripts.scripts }
+    requires are { ArePastsOf ground.now.defs.msdbs pasts.old }
+    requires settled { AllByRecursion (IsSettledBy 0) pasts.old }
+    requires shape { AreDedbsOf ground.now.defs anchors.old }
+{
+    let Ground {
+        exits,
+        defs,
+        scripts,
+    } = ground;
     for at in 0..entries.len() {
+        let place = at as u64;
         let entry = &entries[at];
-        if !rerun(
-            alloc,
-            &mut pasts,
-            &mut anchors,
-            &defs,
-            &scripts,
-            &exits,
-            at as u64,
-            entry,
-        )? {
+        let message = message(alloc, Name(*entry.0), entry.1)?;
+        let Some(number) = scripts.find(&message.tran) else {
+            return Ok(Some(at));
+        };
+        let Some(notes) = notes(alloc, entry, place)? else {
+            return Ok(Some(at));
+        };
+        let alone = replay(
+            alloc, pasts, anchors, defs, scripts, exits, place, &message, number, &notes,
+        )?;
+        if !is_so(&alone, &entry.3) {
             return Ok(Some(at));
         }
     }
     Ok(None)
 }
 
+/// Runs entries of tellers again. The first that comes to something else than it says.
+fn run_entries(alloc: Global, entries: &[Entry]) -> Result<Option<usize>, Fail> {
+    let ground = TELLERS.read(alloc)?;
+    let mut pasts = empty(alloc, &ground.defs)?;
+    let mut anchors = Anchors::new(alloc, &ground.defs)?;
+    Ok(first_other(alloc, &mut pasts, &mut anchors, &ground, entries)?)
+}
+
 /// Tellers are hired and paid. Notes name older states, and a second withdrawal fails at the sync point.
-static PAID: [Entry; 11] = [
+const PAID: &[Entry] = &[
     Entry(b"HIRE    ", b"T001 100", &[], Ended::Done(b"HIRED")),
     Entry(b"DEPOSIT ", b"T001 50", &[1], Ended::Done(b"NEW")),
     Entry(b"ASK     ", b"T001", &[1], Ended::Done(b"100")),
@@ -168,7 +157,7 @@ static PAID: [Entry; 11] = [
 ];
 
 /// A hold shows the state of the place, whatever its transaction noted, and a teller who is fired is gone from there on.
-static HOLDS: [Entry; 6] = [
+const HOLDS: &[Entry] = &[
     Entry(b"HIRE    ", b"T001 7", &[], Ended::Done(b"HIRED")),
     Entry(b"SET     ", b"T001 9", &[], Ended::Done(b"7")),
     Entry(b"ASK     ", b"T001", &[1], Ended::Done(b"7")),
@@ -177,16 +166,13 @@ static HOLDS: [Entry; 6] = [
     Entry(b"ASK     ", b"T001", &[3], Ended::Done(b"9")),
 ];
 
-#[test]
-fn tellers_are_paid(rt: HostRuntime) -> Result<(), Fail> {
-    let wrong = run_entries(rt.alloc(), &PAID)?;
-    assert!(rt; wrong.is_none(), "at {wrong:?}");
-    Ok(())
-}
+static LOGS: [(&str, &[Entry]); 2] = [("tellers are paid", PAID), ("holds see the place", HOLDS)];
 
 #[test]
-fn holds_see_the_place(rt: HostRuntime) -> Result<(), Fail> {
-    let wrong = run_entries(rt.alloc(), &HOLDS)?;
-    assert!(rt; wrong.is_none(), "at {wrong:?}");
+fn entries_come_to_what_they_came_to(rt: HostRuntime) -> Result<(), Fail> {
+    for (name, entries) in &LOGS {
+        let wrong = run_entries(rt.alloc(), entries)?;
+        assert!(rt; wrong.is_none(), "{name}: at {wrong:?}");
+    }
     Ok(())
 }

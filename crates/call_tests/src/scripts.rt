@@ -3,11 +3,8 @@ ghost use Rattle.fp_model.specs.WellFormed.{AreDefs};
 
 use crate::definitions::sample;
 use crate::systems::SAMPLE;
-use fp_model::{
-    Bytes, Comparison, Defs, FieldText, FsaText, Get, List, Name, Operand, Operation, Script,
-    SsaText, Statement,
-};
-use std::alloc::{AllocError, Global};
+use fp_model::{Comparison, Defs, FsaText, Get, Name, Operand, Operation, SsaText, Statement};
+use std::alloc::Global;
 use std::test::Fail;
 use txn_lang::{ScriptFault, Scripts, parse};
 
@@ -56,156 +53,193 @@ fn the_sample_is_read(rt: HostRuntime) -> Result<(), Fail> {
 
 // ---- statements
 
-// A list of one element, and of two.
-fn just<T: Drop>(alloc: Global, item: T) -> Result<List<T>, AllocError> {
-    let mut list = List::new(alloc);
-    list.push(item)?;
-    Ok(list)
+// An operand that is wanted.
+#[derive(Clone, Copy)]
+enum Value {
+    Text(&'static [u8]),
+    Word(u8),
+    Field(Name),
+    Status,
+    Fsas,
+    Variable(Name),
 }
 
-fn pair<T: Drop>(alloc: Global, first: T, second: T) -> Result<List<T>, AllocError> {
-    let mut list = just(alloc, first)?;
-    list.push(second)?;
-    Ok(list)
-}
-
-fn text(alloc: Global, letters: &[u8]) -> Result<Operand, AllocError> {
-    Ok(Operand::Text(Bytes::from_slice(alloc, letters)?))
-}
-
-fn field_call(alloc: Global) -> Result<Statement, AllocError> {
-    let first = FsaText {
-        field: Name(*b"BAL     "),
-        op: b'H',
-        operand: Operand::Word(2),
-    };
-    let second = FsaText {
-        field: Name(*b"BAL     "),
-        op: b'-',
-        operand: text(alloc, b"-7")?,
-    };
-    Ok(Statement::Fld {
-        db: 0,
-        key: Operand::Word(1),
-        fsas: pair(alloc, first, second)?,
-    })
-}
-
-fn insert(alloc: Global) -> Result<Statement, AllocError> {
-    let customer = SsaText {
-        segment: 0,
-        key: Some(Operand::Word(1)),
-    };
-    let audit = SsaText {
-        segment: 1,
-        key: None,
-    };
-    let what = FieldText {
-        field: Name(*b"WHAT    "),
-        value: Operand::Word(2),
-    };
-    Ok(Statement::Isrt {
-        db: 2,
-        ssas: pair(alloc, customer, audit)?,
-        fields: just(alloc, what)?,
-    })
-}
-
-fn get(alloc: Global) -> Result<Statement, AllocError> {
-    let key = SsaText {
-        segment: 0,
-        key: Some(Operand::Status),
-    };
-    Ok(Statement::Get {
-        get: Get::NextInParent,
-        hold: true,
-        db: 1,
-        ssas: just(alloc, key)?,
-    })
-}
-
-fn set(alloc: Global) -> Result<Statement, AllocError> {
-    Ok(Statement::Set {
-        variable: Name(*b"OUT     "),
-        first: Operand::Field(Name(*b"NAME    ")),
-        rest: Some((Operation::Join, text(alloc, b" ")?)),
-    })
-}
-
-fn choice(alloc: Global) -> Result<Statement, AllocError> {
-    Ok(Statement::If {
-        left: Operand::Fsas,
-        comparison: Comparison::LessOrEqual,
-        right: text(alloc, b"0")?,
-        then: just(alloc, Statement::Break)?,
-        otherwise: pair(alloc, Statement::Roll(98), Statement::Dlet { db: 1 })?,
-    })
-}
-
-fn repeat(alloc: Global) -> Result<Statement, AllocError> {
-    let reply = Statement::Reply(just(alloc, Operand::Variable(Name(*b"A       ")))?);
-    Ok(Statement::Repeat {
-        times: 10,
-        body: pair(alloc, choice(alloc)?, reply)?,
-    })
-}
-
-// The statement of a line below, by its place.
-fn statement(alloc: Global, place: usize) -> Result<Statement, AllocError> {
-    match place {
-        0 => field_call(alloc),
-        1 => insert(alloc),
-        2 => get(alloc),
-        3 => set(alloc),
-        _ => repeat(alloc),
+fn is_value(found: &Operand, wanted: &Value) -> bool {
+    match (found, wanted) {
+        (Operand::Text(text), Value::Text(wanted)) => text.as_slice() == *wanted,
+        (Operand::Word(word), Value::Word(wanted)) => word == wanted,
+        (Operand::Field(name), Value::Field(wanted)) => name == wanted,
+        (Operand::Variable(name), Value::Variable(wanted)) => name == wanted,
+        (Operand::Status, Value::Status) | (Operand::Fsas, Value::Fsas) => true,
+        _ => false,
     }
 }
 
-static STATEMENTS: [&[u8]; 5] = [
-    b"TRAN T\nFLD ACCTS KEY(#1) BAL H #2 BAL - -007\n",
-    b"TRAN T\nISRT CUST CUSTOMER(#1) AUDIT WHAT=#2\n",
-    b"TRAN T\nGHNP TELLERS KEY(STATUS)\n",
-    b"TRAN T\nSET OUT IO.NAME & ' '\n",
-    b"TRAN T\nREPEAT 10\nIF FSAS LE -0\nBREAK\nELSE\nROLB 98\nDLET TELLERS\nEND\nREPLY A\nEND\n",
+// Whether a segment search argument is of this type, with this key behind it, if any.
+fn is_ssa(found: &SsaText, segment: u8, key: Option<&Value>) -> bool {
+    if found.segment != segment {
+        return false;
+    }
+    match (&found.key, key) {
+        (Some(found), Some(wanted)) => is_value(found, wanted),
+        (None, None) => true,
+        _ => false,
+    }
+}
+
+// Whether a field search argument on the balance is this one.
+fn is_fsa(found: &FsaText, op: u8, operand: &Value) -> bool {
+    found.field == Name(*b"BAL     ") && found.op == op && is_value(&found.operand, operand)
+}
+
+fn is_field_call(found: &Statement) -> bool {
+    let Statement::Fld { db: 0, key, fsas } = found else {
+        return false;
+    };
+    let [first, second] = fsas.as_slice() else {
+        return false;
+    };
+    is_value(key, &Value::Word(1))
+        && is_fsa(first, b'H', &Value::Word(2))
+        && is_fsa(second, b'-', &Value::Text(b"-7"))
+}
+
+fn is_insert(found: &Statement) -> bool {
+    let Statement::Isrt {
+        db: 2,
+        ssas,
+        fields,
+    } = found
+    else {
+        return false;
+    };
+    let ([customer, audit], [what]) = (ssas.as_slice(), fields.as_slice()) else {
+        return false;
+    };
+    is_ssa(customer, 0, Some(&Value::Word(1)))
+        && is_ssa(audit, 1, None)
+        && what.field == Name(*b"WHAT    ")
+        && is_value(&what.value, &Value::Word(2))
+}
+
+fn is_get(found: &Statement) -> bool {
+    let Statement::Get {
+        get: Get::NextInParent,
+        hold: true,
+        db: 1,
+        ssas,
+    } = found
+    else {
+        return false;
+    };
+    let [key] = ssas.as_slice() else {
+        return false;
+    };
+    is_ssa(key, 0, Some(&Value::Status))
+}
+
+fn is_set(found: &Statement) -> bool {
+    let Statement::Set {
+        variable,
+        first,
+        rest: Some((Operation::Join, second)),
+    } = found
+    else {
+        return false;
+    };
+    *variable == Name(*b"OUT     ")
+        && is_value(first, &Value::Field(Name(*b"NAME    ")))
+        && is_value(second, &Value::Text(b" "))
+}
+
+// Whether the blocks of a choice are these.
+fn are_blocks(then: &[Statement], otherwise: &[Statement]) -> bool {
+    matches!(then, [Statement::Break])
+        && matches!(otherwise, [Statement::Roll(98), Statement::Dlet { db: 1 }])
+}
+
+fn is_choice(found: &Statement) -> bool {
+    let Statement::If {
+        left,
+        comparison: Comparison::LessOrEqual,
+        right,
+        then,
+        otherwise,
+    } = found
+    else {
+        return false;
+    };
+    is_value(left, &Value::Fsas)
+        && is_value(right, &Value::Text(b"0"))
+        && are_blocks(then.as_slice(), otherwise.as_slice())
+}
+
+fn is_reply(found: &Statement) -> bool {
+    let Statement::Reply(operands) = found else {
+        return false;
+    };
+    match operands.as_slice() {
+        [only] => is_value(only, &Value::Variable(Name(*b"A       "))),
+        _ => false,
+    }
+}
+
+fn is_repeat(found: &Statement) -> bool {
+    let Statement::Repeat { times: 10, body } = found else {
+        return false;
+    };
+    match body.as_slice() {
+        [choice, reply] => is_choice(choice) && is_reply(reply),
+        _ => false,
+    }
+}
+
+// Whether a statement is that of a line below, by its place.
+fn is_statement(found: &Statement, place: usize) -> bool {
+    match place {
+        0 => is_field_call(found),
+        1 => is_insert(found),
+        2 => is_get(found),
+        3 => is_set(found),
+        _ => is_repeat(found),
+    }
+}
+
+// A text, and whether its statement is that of a place.
+static STATEMENTS: [(&[u8], usize, bool); 6] = [
+    (b"TRAN T\nFLD ACCTS KEY(#1) BAL H #2 BAL - -007\n", 0, true),
+    (b"TRAN T\nISRT CUST CUSTOMER(#1) AUDIT WHAT=#2\n", 1, true),
+    (b"TRAN T\nGHNP TELLERS KEY(STATUS)\n", 2, true),
+    (b"TRAN T\nSET OUT IO.NAME & ' '\n", 3, true),
+    (
+        b"TRAN T\nREPEAT 10\nIF FSAS LE -0\nBREAK\nELSE\nROLB 98\nDLET TELLERS\nEND\nREPLY A\nEND\n",
+        4,
+        true,
+    ),
+    // Another text is another statement.
+    (b"TRAN T\nSET OUT IO.NAME & 'x'\n", 3, false),
 ];
 
 const T: Name = Name(*b"T       ");
 
-// `T` with one statement.
-fn script(alloc: Global, statement: Statement) -> Result<Script, AllocError> {
-    Ok(Script {
-        name: T,
-        statements: just(alloc, statement)?,
-    })
-}
-
-// Whether a text of one script is this one.
-fn is_script(scripts: &Scripts, wanted: &Script) -> bool {
-    match scripts.find(&wanted.name) {
-        Some(0) => *scripts.script(0) == *wanted,
+// Whether these scripts begin with `T`, and that has the statement of a place alone.
+fn has_statement(scripts: &Scripts, place: usize) -> bool {
+    let Some(0) = scripts.find(&T) else {
+        return false;
+    };
+    let script = scripts.script(0);
+    match script.statements.as_slice() {
+        [only] => script.name == T && is_statement(only, place),
         _ => false,
     }
 }
 
 #[test]
 fn statements_have_their_values(rt: HostRuntime) -> Result<(), Fail> {
-    let alloc = rt.alloc();
-    let defs = sample(alloc)?;
-    for (place, line) in STATEMENTS.iter().enumerate() {
-        let wanted = script(alloc, statement(alloc, place)?)?;
-        assert!(rt;
-            is_script(&read(alloc, line, &defs)?, &wanted),
-            "at {place}"
-        );
-    }
-    Ok(())
-}
-
-#[test]
-fn another_text_is_another_statement(rt: HostRuntime) -> Result<(), Fail> {
     let defs = sample(rt.alloc())?;
-    let wanted = script(rt.alloc(), set(rt.alloc())?)?;
-    let found = read(rt.alloc(), b"TRAN T\nSET OUT IO.NAME & 'x'\n", &defs)?;
-    assert!(rt; !is_script(&found, &wanted));
+    for (row, (line, place, is_so)) in STATEMENTS.iter().enumerate() {
+        let scripts = read(rt.alloc(), line, &defs)?;
+        assert!(rt; has_statement(&scripts, *place) == *is_so, "row {row}");
+    }
     Ok(())
 }

@@ -13,6 +13,7 @@ use crate::accounts::{defs, field_call, insert};
 use crate::queues::Action::{Add, Insert, Verify};
 use crate::queues::{A, B, C, Step, queue, segments};
 use fp_model::{Bytes, Deferred, Entry, List, Outcome, Resource};
+use fp_site::Site;
 use log_groups::{Front, Log, LogFault};
 use memory_site::MemorySite;
 use msdb_store::MsdbStore;
@@ -33,19 +34,25 @@ fn front(alloc: Global) -> Result<Front, AllocError>
     })
 }
 
+// The log of a front on any site, made anew.
+fn made<S: Site>(alloc: Global, site: &mut S, front: &Front) -> Result<Log, LogFault>
+    requires { FitsFront (as_front front.now) }
+{
+    Log::make(alloc, site, front)?;
+    Log::open(alloc, site, front)
+}
+
 // A log without entries.
 fn empty_log(alloc: Global) -> Result<Log, LogFault> {
     let front = front(alloc)?;
     let mut site = MemorySite::new(alloc, &[])?;
-    Log::make(alloc, &mut site, &front)?;
-    Log::open(alloc, &mut site, &front)
+    made(alloc, &mut site, &front)
 }
 
 // ---- drafts
 
 // A draft of two calls, how many items its entry has or which call fails with which bytes found, and behind it how many
 // entries the log has, and all segments.
-#[derive(Clone, Copy)]
 struct Row {
     calls: [Step; 2],
     wanted: Result<usize, (u32, u16, &'static [u8])>,
@@ -83,7 +90,7 @@ static ROWS: [Row; 4] = [
     },
 ];
 
-fn draft(alloc: Global, from: u64, row: Row) -> Result<Draft, AllocError>
+fn draft(alloc: Global, from: u64, row: &Row) -> Result<Draft, AllocError>
     ensures fit { (defs : ListOf DefOf) → (def : DefOf) → defs ≡ def ∷ [] → def.length ≡ 8
         → key_length def.fields ≡ 4 → IfOk result (λ draft. AllByRecursion (IsFitDeferred defs) draft.deferred) }
     ensures line { IfOk result (λ draft. length draft.line < 2 ^ 16) }
@@ -106,7 +113,7 @@ fn committed(
     alloc: Global,
     store: &mut MsdbStore,
     log: &mut Log,
-    row: Row,
+    row: &Row,
 ) -> Result<Result<usize, Cause>, Cause>
     requires { (defs : ListOf DefOf) × (def : DefOf) × (defs ≡ def ∷ []) × IsMsdbDef def × (def.length ≡ 8)
         × (key_length def.fields ≡ 4) × IsOf defs store.old }
@@ -122,7 +129,7 @@ fn committed(
 }
 
 // The answer of a row as `commit` gives it.
-fn wanted(alloc: Global, row: Row) -> Result<Result<usize, Cause>, AllocError> {
+fn wanted(alloc: Global, row: &Row) -> Result<Result<usize, Cause>, AllocError> {
     match row.wanted {
         Ok(items) => Ok(Ok(items)),
         Err((call, fsa, found)) => {
@@ -133,7 +140,7 @@ fn wanted(alloc: Global, row: Row) -> Result<Result<usize, Cause>, AllocError> {
 }
 
 // Commits the draft of a row. Whether log and databases come to what is wanted, and the log keeps its room.
-fn goes(alloc: Global, store: &mut MsdbStore, log: &mut Log, row: Row) -> Result<bool, Cause>
+fn goes(alloc: Global, store: &mut MsdbStore, log: &mut Log, row: &Row) -> Result<bool, Cause>
     requires { (defs : ListOf DefOf) × (def : DefOf) × (defs ≡ def ∷ []) × IsMsdbDef def × (def.length ≡ 8)
         × (key_length def.fields ≡ 4) × IsOf defs store.old }
     ensures { (defs : ListOf DefOf) → (def : DefOf) → defs ≡ def ∷ [] → IsMsdbDef def → def.length ≡ 8
@@ -154,7 +161,7 @@ fn drafts_come_to_what_is_wanted(rt: HostRuntime) -> Result<(), Fail> {
     let mut log = empty_log(alloc)?;
     log.reserve(ROOM)?;
     for (place, row) in ROWS.iter().enumerate() {
-        assert!(rt; goes(alloc, &mut store, &mut log, *row)?, "row {place}");
+        assert!(rt; goes(alloc, &mut store, &mut log, row)?, "row {place}");
     }
     Ok(())
 }
@@ -211,14 +218,19 @@ fn refusal(alloc: Global, line: Bytes) -> Entry
     }
 }
 
-#[test]
-fn a_refusal_fills_its_room(rt: HostRuntime) -> Result<(), Fail> {
-    let alloc = rt.alloc();
+// Appends the refusal of a line to a log without entries that keeps just its room free. The room, how many entries the
+// log has then, and what it keeps free.
+fn refused(alloc: Global, log: &mut Log) -> Result<[u64; 3], LogFault> {
     let line = Bytes::from_slice(alloc, b"T1 MOVE")?;
     let room = refusal_room(&line);
-    let mut log = empty_log(alloc)?;
     log.reserve(room)?;
-    append_beside(&mut log, &refusal(alloc, line), 0)?;
-    assert!(rt; [room, log.count(), log.spare()] == [36, 1, 0]);
+    append_beside(log, &refusal(alloc, line), 0)?;
+    Ok([room, log.count(), log.spare()])
+}
+
+#[test]
+fn a_refusal_fills_its_room(rt: HostRuntime) -> Result<(), Fail> {
+    let mut log = empty_log(rt.alloc())?;
+    assert!(rt; refused(rt.alloc(), &mut log)? == [36, 1, 0]);
     Ok(())
 }

@@ -8,12 +8,13 @@ ghost use Rattle.past_replay.specs.Setup.{IsSetup};
 ghost use Rattle.std.specs.List.{AllByRecursion};
 ghost use Rattle.std.specs.Prelude.{◌≡◌, IfOk, true};
 
-use fp_defs::{DefsFault, read_defs};
+use fp_defs::read_defs;
 use fp_exits::{
     Exits, Router, Routing, Spreader, Spreading, fold_group, fold_place, range_group, range_place,
 };
 use fp_model::{Bytes, Defs, Kind, Message, Name};
 use std::alloc::{AllocError, Global};
+use std::test::Fail;
 use txn_lang::{ScriptFault, Scripts, definitions_have_byte_numbers, parse, what_was_read_fits};
 
 // ---- exits
@@ -315,33 +316,56 @@ REPLY 'GONE' STATUS
 ",
 };
 
-impl System {
-    /// Its definitions.
-    pub(crate) fn definitions(self, alloc: Global, exits: &Exits) -> Result<Defs, DefsFault>
-        ensures defs { IfOk result AreDefs }
-        ensures spread { IfOk result (λ defs. AllByRecursion
-            (λ dedb. has_kind (kinds_of exits.now).spreaders dedb.randomizer ≡ true) defs.dedbs) }
-    {
-        read_defs(alloc, self.definitions.as_bytes(), exits)
-    }
+/// A system that was read, by exits that fold.
+#[derive(Drop)]
+pub(crate) struct Ground {
+    pub(crate) exits: Exits,
+    pub(crate) defs: Defs,
+    pub(crate) scripts: Scripts,
+}
 
-    /// Its scripts, read under the definitions.
-    pub(crate) fn scripts(
-        self,
-        alloc: Global,
-        defs: &Defs,
-        exits: &Exits,
-    ) -> Result<Scripts, ScriptFault>
-        requires defs { AreDefs defs.now }
-        requires spread { AllByRecursion
-            (λ dedb. has_kind (kinds_of exits.now).spreaders dedb.randomizer ≡ true) defs.now.dedbs }
-        ensures setup { IfOk result (λ scripts. IsSetup defs.now (kinds_of exits.now) scripts.scripts) }
-        ensures can { IfOk result (λ scripts. CanAudit defs.now scripts.scripts) }
+/// The definitions of a text, by exits that fold.
+pub(crate) fn defs_of(alloc: Global, text: &str) -> Result<Defs, Fail>
+    ensures { IfOk result AreDefs }
+{
+    let exits = exits(alloc)?;
+    Ok(read_defs(alloc, text.as_bytes(), &exits)?)
+}
+
+// Scripts that were read under definitions.
+fn scripts_of(
+    alloc: Global,
+    text: &[u8],
+    defs: &Defs,
+    exits: &Exits,
+) -> Result<Scripts, ScriptFault>
+    requires defs { AreDefs defs.now }
+    requires spread { AllByRecursion
+        (λ dedb. has_kind (kinds_of exits.now).spreaders dedb.randomizer ≡ true) defs.now.dedbs }
+    ensures setup { IfOk result (λ scripts. IsSetup defs.now (kinds_of exits.now) scripts.scripts) }
+    ensures can { IfOk result (λ scripts. CanAudit defs.now scripts.scripts) }
+{
+    definitions_have_byte_numbers();
+    what_was_read_fits();
+    let _exits = exits;
+    parse(alloc, text, defs)
+}
+
+impl System {
+    /// Reads it.
+    pub(crate) fn read(&self, alloc: Global) -> Result<Ground, Fail>
+        ensures setup { IfOk result
+            (λ ground. IsSetup ground.defs (kinds_of ground.exits) ground.scripts.scripts) }
+        ensures can { IfOk result (λ ground. CanAudit ground.defs ground.scripts.scripts) }
     {
-        definitions_have_byte_numbers();
-        what_was_read_fits();
-        let _exits = exits;
-        parse(alloc, self.scripts, defs)
+        let exits = exits(alloc)?;
+        let defs = read_defs(alloc, self.definitions.as_bytes(), &exits)?;
+        let scripts = scripts_of(alloc, self.scripts, &defs, &exits)?;
+        Ok(Ground {
+            exits,
+            defs,
+            scripts,
+        })
     }
 }
 

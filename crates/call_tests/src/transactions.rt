@@ -35,7 +35,6 @@ fn store(alloc: Global, defs: &Defs) -> Result<MsdbStore, AllocError>
 }
 
 // A call of a short transaction.
-#[derive(Clone, Copy)]
 enum Step {
     Get(Get, bool, Option<[u8; 4]>),
     // At least 60, and less 60.
@@ -195,31 +194,48 @@ fn ask(
     Ok(())
 }
 
-fn run_of(alloc: Global, dynamic: bool, steps: &[Step]) -> Result<Run, AllocError> {
-    let defs = defs(alloc, dynamic)?;
-    let store = store(alloc, &defs)?;
-    let mut work = Work::new(alloc, &defs)?;
-    let mut locks = Locks::new(alloc, REGION)?;
-    let exits = Exits::new(Vec::new(alloc), Vec::new(alloc));
-    let mut run = Run {
-        statuses: Bytes::new(alloc),
-        letters: Bytes::new(alloc),
-        notes: 0,
-        queued: 0,
-    };
+// Asks the calls of these steps, one after another.
+fn ask_all(
+    alloc: Global,
+    work: &mut Work,
+    locks: &mut Locks,
+    steps: &[Step],
+    store: &MsdbStore,
+    defs: &Defs,
+    exits: &Exits,
+    run: &mut Run,
+) -> Result<(), AllocError>
+    requires defs { AllByRecursion IsMsdbDef defs.now.msdbs }
+    requires alone { defs.now.dedbs ≡ [] }
+    requires one { (def : DefOf) × (defs.now.msdbs ≡ def ∷ []) × IsMsdbDef def × (def.length ≡ 8)
+        × (key_length def.fields ≡ 4) }
+    requires store { IsOf defs.now.msdbs store.now }
+    requires work { IsWorkOf defs.now work.old }
+    requires locks { length locks.old ≡ 1 }
+{
     for step in steps {
-        let call = call_of(alloc, &defs, step)?;
-        ask(
-            alloc, &mut work, &mut locks, &call, &store, &defs, &exits, &mut run,
-        )?;
+        let call = call_of(alloc, defs, step)?;
+        ask(alloc, work, locks, &call, store, defs, exits, run)?;
     }
     run.notes = work.notes().len();
     run.queued = work.deferred().len();
-    Ok(run)
+    Ok(())
+}
+
+// Runs a transaction of these steps, where there are no exits.
+fn run_of(alloc: Global, dynamic: bool, steps: &[Step], run: &mut Run) -> Result<(), AllocError> {
+    let defs = defs(alloc, dynamic)?;
+    let store = store(alloc, &defs)?;
+    let exits = Exits::new(Vec::new(alloc), Vec::new(alloc));
+    let mut work = Work::new(alloc, &defs)?;
+    let mut locks = Locks::new(alloc, REGION)?;
+    ask_all(
+        alloc, &mut work, &mut locks, steps, &store, &defs, &exits, run,
+    )
 }
 
 // GU of a key, GU without one, GN up to the end, and gets that a main storage database doesn't have.
-const GETS: [Step; 9] = [
+const GETS: &[Step] = &[
     Step::Get(Get::Unique, false, Some(*b"A002")),
     Step::Get(Get::Next, false, None),
     Step::Get(Get::Next, false, None),
@@ -232,7 +248,7 @@ const GETS: [Step; 9] = [
 ];
 
 // A segment is replaced while it is held, and each answered call ends the hold.
-const REPLACING: [Step; 9] = [
+const REPLACING: &[Step] = &[
     Step::Repl(*b"A001\x00\x00\x20\x0c"),
     Step::Get(Get::Unique, true, Some(*b"A001")),
     Step::Repl(*b"A004\x00\x00\x20\x0c"),
@@ -245,7 +261,7 @@ const REPLACING: [Step; 9] = [
 ];
 
 // A withdrawal of 60 from 50 is answered FE with D and a blank, and from 100 it is queued; it isn't seen before.
-const WITHDRAWALS: [Step; 4] = [
+const WITHDRAWALS: &[Step] = &[
     Step::Withdraw(*b"A002"),
     Step::Withdraw(*b"A001"),
     Step::Withdraw(*b"A001"),
@@ -253,7 +269,7 @@ const WITHDRAWALS: [Step; 4] = [
 ];
 
 // Each letter once.
-const LETTERS: [Step; 8] = [
+const LETTERS: &[Step] = &[
     Step::Fld(*b"A001", *b"BAL     ", b'*', *b"0000001"),
     Step::Fld(*b"A001", *b"NONE    ", b'=', *b"0000001"),
     Step::Fld(*b"A001", *b"ACCT    ", b'=', *b"0000001"),
@@ -265,7 +281,7 @@ const LETTERS: [Step; 8] = [
 ];
 
 // A key that was inserted or deleted is changed no more, and the segments are still seen as they were.
-const INSERTS_AND_DELETES: [Step; 10] = [
+const INSERTS_AND_DELETES: &[Step] = &[
     Step::Isrt(*b"A004\x00\x00\x20\x0c"),
     Step::Isrt(*b"A004\x00\x00\x20\x0c"),
     Step::Isrt(*b"A001\x00\x00\x20\x0c"),
@@ -279,7 +295,6 @@ const INSERTS_AND_DELETES: [Step; 10] = [
 ];
 
 // A transaction of some calls, what they are answered, and how many notes and deferred calls it has behind them.
-#[derive(Clone, Copy)]
 struct Scenario {
     dynamic: bool,
     steps: &'static [Step],
@@ -292,7 +307,7 @@ struct Scenario {
 static SCENARIOS: [Scenario; 5] = [
     Scenario {
         dynamic: false,
-        steps: &GETS,
+        steps: GETS,
         statuses: b"    GBGE    AMAMAM",
         letters: b"",
         notes: 6,
@@ -300,7 +315,7 @@ static SCENARIOS: [Scenario; 5] = [
     },
     Scenario {
         dynamic: false,
-        steps: &REPLACING,
+        steps: REPLACING,
         statuses: b"DJND  DADJ    NDGEAMAM",
         letters: b"",
         notes: 0,
@@ -308,7 +323,7 @@ static SCENARIOS: [Scenario; 5] = [
     },
     Scenario {
         dynamic: false,
-        steps: &WITHDRAWALS,
+        steps: WITHDRAWALS,
         statuses: b"FE    GE",
         letters: b"D     ",
         notes: 4,
@@ -316,7 +331,7 @@ static SCENARIOS: [Scenario; 5] = [
     },
     Scenario {
         dynamic: false,
-        steps: &LETTERS,
+        steps: LETTERS,
         statuses: b"FEFEFEFEFEFEFE  ",
         letters: b"AHCBEDG ",
         notes: 8,
@@ -324,7 +339,7 @@ static SCENARIOS: [Scenario; 5] = [
     },
     Scenario {
         dynamic: true,
-        steps: &INSERTS_AND_DELETES,
+        steps: INSERTS_AND_DELETES,
         statuses: b"ND  XPNDIIGEDJ    XP  XP",
         letters: b"",
         notes: 1,
@@ -334,7 +349,13 @@ static SCENARIOS: [Scenario; 5] = [
 
 // Whether a transaction comes to what is wanted.
 fn goes(alloc: Global, wanted: &Scenario) -> Result<bool, AllocError> {
-    let run = run_of(alloc, wanted.dynamic, wanted.steps)?;
+    let mut run = Run {
+        statuses: Bytes::new(alloc),
+        letters: Bytes::new(alloc),
+        notes: 0,
+        queued: 0,
+    };
+    run_of(alloc, wanted.dynamic, wanted.steps, &mut run)?;
     Ok(
         run.statuses.as_slice() == wanted.statuses
             && run.letters.as_slice() == wanted.letters

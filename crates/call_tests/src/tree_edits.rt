@@ -8,7 +8,7 @@ use std::test::Fail;
 const A9: Steps = &[(0, b"A9", 0)];
 
 /// A segment goes with all below it; its twins stay.
-static DELETED: [Call; 9] = [
+const DELETED: &[Call] = &[
     Call::Delete(A1_L1, true),
     Call::Delete(A1_L1, false),
     Call::Delete(A1_L1_Y1_N1, false),
@@ -21,7 +21,7 @@ static DELETED: [Call; 9] = [
 ];
 
 /// A segment has other bytes; what is below it stays.
-static REPLACED: [Call; 9] = [
+const REPLACED: &[Call] = &[
     Call::Shows(&[(3, None)], b"D1."),
     Call::Replace(A1_D1, b"D1!", true),
     Call::Shows(&[(3, None)], b"D1!"),
@@ -34,7 +34,7 @@ static REPLACED: [Call; 9] = [
 ];
 
 /// Roots in front, between and behind, and the last one gone.
-static ROOTS: [Call; 6] = [
+const ROOTS: &[Call] = &[
     Call::Insert(A9, true),
     Call::Find(Some(A3), None, &[(0, None)], Some(A9)),
     Call::Delete(A9, true),
@@ -43,20 +43,16 @@ static ROOTS: [Call; 6] = [
     Call::Delete(&[], false),
 ];
 
-#[test]
-fn a_delete_takes_all_below(rt: HostRuntime) -> Result<(), Fail> {
-    assert!(rt; all_answer(&rt, &DELETED)?);
-    Ok(())
-}
+static RUNS: [(&str, &[Call]); 3] = [
+    ("a delete takes all below", DELETED),
+    ("a replace leaves what is below", REPLACED),
+    ("roots come and go", ROOTS),
+];
 
 #[test]
-fn a_replace_leaves_what_is_below(rt: HostRuntime) -> Result<(), Fail> {
-    assert!(rt; all_answer(&rt, &REPLACED)?);
-    Ok(())
-}
-
-#[test]
-fn roots_come_and_go(rt: HostRuntime) -> Result<(), Fail> {
-    assert!(rt; all_answer(&rt, &ROOTS)?);
+fn edits_leave_what_is_wanted(rt: HostRuntime) -> Result<(), Fail> {
+    for (name, calls) in &RUNS {
+        assert!(rt; all_answer(rt.alloc(), calls)?, "{name}");
+    }
     Ok(())
 }

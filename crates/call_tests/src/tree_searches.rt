@@ -7,7 +7,7 @@ use crate::trees::{
 use std::test::Fail;
 
 /// The whole anchor in hierarchical order, each found behind the one before.
-static ORDER: [Call; 17] = [
+const ORDER: &[Call] = &[
     Call::Find(None, None, &[], Some(A1)),
     Call::Find(Some(A1), None, &[], Some(A1_AUDIT_9)),
     Call::Find(Some(A1_AUDIT_9), None, &[], Some(A1_AUDIT_4)),
@@ -28,7 +28,7 @@ static ORDER: [Call; 17] = [
 ];
 
 /// Below a parent, and no further.
-static WITHIN: [Call; 9] = [
+const WITHIN: &[Call] = &[
     Call::Find(None, Some(A1), &[], Some(A1_AUDIT_9)),
     Call::Find(Some(A1), Some(A1), &[], Some(A1_AUDIT_9)),
     Call::Find(Some(A1_P2), Some(A1), &[], None),
@@ -41,7 +41,7 @@ static WITHIN: [Call; 9] = [
 ];
 
 /// Types and keys.
-static ARGUMENTS: [Call; 16] = [
+const ARGUMENTS: &[Call] = &[
     Call::Find(Some(A1), None, &[(0, None)], Some(A2)),
     Call::Find(Some(A3), None, &[(0, None)], None),
     Call::Find(None, None, &[(6, None)], Some(A1_L1_Y1_N1)),
@@ -74,33 +74,24 @@ const A0: Steps = &[(0, b"A0", 0)];
 const A2_D1: Steps = &[(0, b"A2", 0), (3, b"D1", 0)];
 
 /// Positions at which nothing stands any more.
-static GONE: [Call; 4] = [
+const GONE: &[Call] = &[
     Call::Find(Some(A1_AUDIT_5), None, &[], Some(A1_AUDIT_4)),
     Call::Find(Some(A1_L2_Y5), None, &[], Some(A1_L3)),
     Call::Find(Some(A0), None, &[], Some(A1)),
     Call::Find(Some(A2_D1), None, &[], Some(A3)),
 ];
 
-#[test]
-fn the_order_is_hierarchical(rt: HostRuntime) -> Result<(), Fail> {
-    assert!(rt; all_answer(&rt, &ORDER)?);
-    Ok(())
-}
+static RUNS: [(&str, &[Call]); 4] = [
+    ("the order is hierarchical", ORDER),
+    ("a search stays below its parent", WITHIN),
+    ("arguments name types and keys", ARGUMENTS),
+    ("a position need not stand", GONE),
+];
 
 #[test]
-fn a_search_stays_below_its_parent(rt: HostRuntime) -> Result<(), Fail> {
-    assert!(rt; all_answer(&rt, &WITHIN)?);
-    Ok(())
-}
-
-#[test]
-fn arguments_name_types_and_keys(rt: HostRuntime) -> Result<(), Fail> {
-    assert!(rt; all_answer(&rt, &ARGUMENTS)?);
-    Ok(())
-}
-
-#[test]
-fn a_position_need_not_stand(rt: HostRuntime) -> Result<(), Fail> {
-    assert!(rt; all_answer(&rt, &GONE)?);
+fn searches_find_what_is_wanted(rt: HostRuntime) -> Result<(), Fail> {
+    for (name, calls) in &RUNS {
+        assert!(rt; all_answer(rt.alloc(), calls)?, "{name}");
+    }
     Ok(())
 }

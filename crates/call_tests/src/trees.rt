@@ -1,9 +1,10 @@
 //! Segment types on four levels, three direct ones below the root, and an anchor that is made by calls.
-ghost use Rattle.std.specs.Prelude.{◌≡◌, ◌≤◌, IfOk};
 ghost use Rattle.dli_tree.specs.InOrder.{AreTypes};
+ghost use Rattle.fp_model.specs.WellFormed.{AreDefs};
 
+use crate::systems::defs_of;
 use dli_tree::{Path, Step, delete, first_after, insert, replace};
-use fp_model::{Bytes, FieldDef, FieldKind, List, Name, Root, SegDef, SeqItem, Ssa};
+use fp_model::{Bytes, Defs, List, Root, SegDef, SeqItem, Ssa};
 use std::alloc::{AllocError, Global};
 use std::test::Fail;
 
@@ -14,7 +15,6 @@ pub type Steps = &'static [(u8, &'static [u8], u64)];
 pub type Arguments = &'static [(u8, Option<&'static [u8]>)];
 
 /// A call, and what it is to answer.
-#[derive(Clone, Copy)]
 pub enum Call {
     /// A new segment of its key and a dot at the end of a path.
     Insert(Steps, bool),
@@ -28,162 +28,237 @@ pub enum Call {
     Shows(Arguments, &'static [u8]),
 }
 
-/// A type below a parent, with a key of two bytes.
-fn segment(alloc: Global, parent: Option<u8>, sequential: bool) -> Result<SegDef, AllocError>
-    ensures parent { IfOk result (λ def. def.parent ≡ parent) }
-    ensures sequential { IfOk result (λ def. def.sequential ≡ sequential) }
-{
-    let mut fields = List::new(alloc);
-    fields.push(FieldDef {
-        name: Name(*b"KEY     "),
-        kind: FieldKind::C,
-        at: 0,
-        length: 2,
-    })?;
-    Ok(SegDef {
-        name: Name(*b"SEGMENT "),
-        parent,
-        sequential,
-        fields,
-        length: 3,
+/// 0 account; below it 1 audit (sequential), 2 loan, 3 address, 4 phone; 5 payment below loan, 6 note below payment.
+/// Each has a key of two bytes and one more.
+const DEFINITIONS: &str = r#"regions = [1]
+router = "FOLD"
+[[dedb]]
+name = "TREE"
+randomizer = "FOLD"
+ci = 512
+[[dedb.segment]]
+name = "ACCOUNT"
+fields = [["KEY", "C", 2], ["DOT", "C", 1]]
+[[dedb.segment]]
+name = "AUDIT"
+parent = "ACCOUNT"
+sequential = true
+fields = [["KEY", "C", 2], ["DOT", "C", 1]]
+[[dedb.segment]]
+name = "LOAN"
+parent = "ACCOUNT"
+fields = [["KEY", "C", 2], ["DOT", "C", 1]]
+[[dedb.segment]]
+name = "ADDRESS"
+parent = "ACCOUNT"
+fields = [["KEY", "C", 2], ["DOT", "C", 1]]
+[[dedb.segment]]
+name = "PHONE"
+parent = "ACCOUNT"
+fields = [["KEY", "C", 2], ["DOT", "C", 1]]
+[[dedb.segment]]
+name = "PAYMENT"
+parent = "LOAN"
+fields = [["KEY", "C", 2], ["DOT", "C", 1]]
+[[dedb.segment]]
+name = "NOTE"
+parent = "PAYMENT"
+fields = [["KEY", "C", 2], ["DOT", "C", 1]]
+[[dedb.area]]
+name = "AREA"
+uows = 1
+base = 1
+overflow = 1
+capacity = 9
+"#;
+
+fn step(alloc: Global, row: &(u8, &[u8], u64)) -> Result<Step, AllocError> {
+    let key = Bytes::from_slice(alloc, row.1)?;
+    Ok(Step {
+        segment: row.0,
+        key,
+        serial: row.2,
     })
 }
 
-/// 0 account; below it 1 audit (sequential), 2 loan, 3 address, 4 phone; 5 payment below loan, 6 note below payment.
-pub fn types(alloc: Global) -> Result<List<SegDef>, AllocError>
-    ensures { IfOk result AreTypes }
-{
-    let mut types = List::new(alloc);
-    types.push(segment(alloc, None, false)?)?;
-    types.push(segment(alloc, Some(0), true)?)?;
-    types.push(segment(alloc, Some(0), false)?)?;
-    types.push(segment(alloc, Some(0), false)?)?;
-    types.push(segment(alloc, Some(0), false)?)?;
-    types.push(segment(alloc, Some(2), false)?)?;
-    types.push(segment(alloc, Some(5), false)?)?;
-    Ok(types)
-}
-
-fn path(rt: &HostRuntime, steps: Steps) -> Result<Path, Fail> {
-    let mut list = List::new(rt.alloc());
-    for (segment, key, serial) in steps {
-        list.push(Step {
-            segment: *segment,
-            key: Bytes::from_slice(rt.alloc(), key)?,
-            serial: *serial,
-        })?;
+fn path(alloc: Global, rows: Steps) -> Result<Path, AllocError> {
+    let mut steps = List::new(alloc);
+    for row in rows {
+        steps.push(step(alloc, row)?)?;
     }
-    Ok(Path { steps: list })
+    Ok(Path { steps })
 }
 
-fn path_or_none(rt: &HostRuntime, steps: Option<Steps>) -> Result<Option<Path>, Fail> {
+fn path_or_none(alloc: Global, steps: &Option<Steps>) -> Result<Option<Path>, AllocError> {
     match steps {
         None => Ok(None),
-        Some(steps) => Ok(Some(path(rt, steps)?)),
+        Some(steps) => Ok(Some(path(alloc, steps)?)),
     }
 }
 
-fn arguments(rt: &HostRuntime, table: Arguments) -> Result<List<Ssa>, Fail> {
-    let mut ssas = List::new(rt.alloc());
-    for (segment, key) in table {
-        let key = match key {
-            None => None,
-            Some(key) => Some(Bytes::from_slice(rt.alloc(), key)?),
-        };
-        ssas.push(Ssa {
-            segment: *segment,
-            key,
-        })?;
+fn argument(alloc: Global, row: &(u8, Option<&[u8]>)) -> Result<Ssa, AllocError> {
+    let key = match row.1 {
+        None => None,
+        Some(key) => Some(Bytes::from_slice(alloc, key)?),
+    };
+    Ok(Ssa {
+        segment: row.0,
+        key,
+    })
+}
+
+fn arguments(alloc: Global, rows: Arguments) -> Result<List<Ssa>, AllocError> {
+    let mut ssas = List::new(alloc);
+    for row in rows {
+        ssas.push(argument(alloc, row)?)?;
     }
     Ok(ssas)
 }
 
 /// The key at the end of a path, and a dot.
-fn new_bytes(rt: &HostRuntime, steps: Steps) -> Result<Bytes, Fail> {
-    let mut bytes = Bytes::new(rt.alloc());
-    if let Some((_, key, _)) = steps.last() {
-        bytes.append(key)?;
-    }
+fn new_bytes(alloc: Global, steps: Steps) -> Result<Bytes, AllocError> {
+    let key = match steps.last() {
+        Some((_, key, _)) => key,
+        None => &b""[..],
+    };
+    let mut bytes = Bytes::from_slice(alloc, key)?;
     bytes.push(b'.')?;
     Ok(bytes)
 }
 
-fn adds(rt: &HostRuntime, roots: &mut List<Root>, at: usize, serial: u64) -> Result<bool, Fail> {
+fn inserts(
+    alloc: Global,
+    types: &List<SegDef>,
+    roots: &mut List<Root>,
+    steps: Steps,
+) -> Result<bool, AllocError>
+    requires { AreTypes types.now }
+{
+    let path = path(alloc, steps)?;
+    insert(alloc, roots, types, &path, new_bytes(alloc, steps)?)
+}
+
+fn adds(alloc: Global, roots: &mut List<Root>, at: usize, serial: u64) -> Result<bool, AllocError> {
     if at >= roots.len() {
         return Ok(false);
     }
-    let bytes = Bytes::from_slice(rt.alloc(), b"AU.")?;
+    let bytes = Bytes::from_slice(alloc, b"AU.")?;
     roots.item_mut(at).seqs.push(SeqItem { serial, bytes })?;
     Ok(true)
 }
 
-fn finds(
-    rt: &HostRuntime,
+fn replaces(
+    alloc: Global,
     types: &List<SegDef>,
-    roots: &List<Root>,
-    from: (Option<Steps>, Option<Steps>),
-    ssas: Arguments,
-    wanted: Option<Steps>,
-) -> Result<bool, Fail>
+    roots: &mut List<Root>,
+    steps: Steps,
+    bytes: &[u8],
+) -> Result<bool, AllocError>
     requires { AreTypes types.now }
 {
-    let position = path_or_none(rt, from.0)?;
-    let within = path_or_none(rt, from.1)?;
-    let ssas = arguments(rt, ssas)?;
-    let wanted = path_or_none(rt, wanted)?;
-    match first_after(
-        rt.alloc(),
+    let path = path(alloc, steps)?;
+    Ok(replace(roots, types, &path, Bytes::from_slice(alloc, bytes)?))
+}
+
+fn deletes(
+    alloc: Global,
+    types: &List<SegDef>,
+    roots: &mut List<Root>,
+    steps: Steps,
+) -> Result<bool, AllocError>
+    requires { AreTypes types.now }
+{
+    Ok(delete(roots, types, &path(alloc, steps)?))
+}
+
+fn is_step(step: &Step, row: &(u8, &[u8], u64)) -> bool {
+    step.segment == row.0 && step.key.as_slice() == row.1 && step.serial == row.2
+}
+
+fn is_path(path: &Path, wanted: Steps) -> bool {
+    let steps = path.steps.as_slice();
+    if steps.len() != wanted.len() {
+        return false;
+    }
+    for (at, row) in wanted.iter().enumerate() {
+        if !is_step(&steps[at], row) {
+            return false;
+        }
+    }
+    true
+}
+
+/// Whether what was found stands where this path leads; nothing, where none is wanted.
+fn is_found(found: &Option<(Path, Bytes)>, wanted: &Option<Steps>) -> bool {
+    match (found, wanted) {
+        (Some((path, _)), Some(wanted)) => is_path(path, wanted),
+        (None, None) => true,
+        _ => false,
+    }
+}
+
+fn finds(
+    alloc: Global,
+    types: &List<SegDef>,
+    roots: &List<Root>,
+    from: (&Option<Steps>, &Option<Steps>),
+    ssas: &List<Ssa>,
+    wanted: &Option<Steps>,
+) -> Result<bool, AllocError>
+    requires { AreTypes types.now }
+{
+    let position = path_or_none(alloc, from.0)?;
+    let within = path_or_none(alloc, from.1)?;
+    let found = first_after(
+        alloc,
         roots,
         types,
         position.as_ref(),
         within.as_ref(),
-        &ssas,
-    )? {
-        None => Ok(wanted.is_none()),
-        Some((found, _)) => Ok(wanted == Some(found)),
-    }
+        ssas,
+    )?;
+    Ok(is_found(&found, wanted))
 }
 
 fn shows(
-    rt: &HostRuntime,
+    alloc: Global,
     types: &List<SegDef>,
     roots: &List<Root>,
-    ssas: Arguments,
+    ssas: &List<Ssa>,
     bytes: &[u8],
-) -> Result<bool, Fail>
+) -> Result<bool, AllocError>
     requires { AreTypes types.now }
 {
-    let ssas = arguments(rt, ssas)?;
-    match first_after(rt.alloc(), roots, types, None, None, &ssas)? {
+    match first_after(alloc, roots, types, None, None, ssas)? {
         None => Ok(false),
         Some((_, found)) => Ok(found.as_slice() == bytes),
     }
 }
 
 /// Whether a call answers as it is to.
-pub fn answers(
-    rt: &HostRuntime,
+fn answers(
+    alloc: Global,
     types: &List<SegDef>,
     roots: &mut List<Root>,
-    call: Call,
-) -> Result<bool, Fail>
+    call: &Call,
+) -> Result<bool, AllocError>
     requires { AreTypes types.now }
 {
     match call {
-        Call::Insert(steps, new) => {
-            let bytes = new_bytes(rt, steps)?;
-            Ok(insert(rt.alloc(), roots, types, &path(rt, steps)?, bytes)? == new)
-        }
-        Call::Add(at, serial) => adds(rt, roots, at, serial),
+        Call::Insert(steps, new) => Ok(inserts(alloc, types, roots, steps)? == *new),
+        Call::Add(at, serial) => adds(alloc, roots, *at, *serial),
         Call::Replace(steps, bytes, there) => {
-            let bytes = Bytes::from_slice(rt.alloc(), bytes)?;
-            Ok(replace(roots, types, &path(rt, steps)?, bytes) == there)
+            Ok(replaces(alloc, types, roots, steps, bytes)? == *there)
         }
-        Call::Delete(steps, there) => Ok(delete(roots, types, &path(rt, steps)?) == there),
+        Call::Delete(steps, there) => Ok(deletes(alloc, types, roots, steps)? == *there),
         Call::Find(position, within, ssas, wanted) => {
-            finds(rt, types, roots, (position, within), ssas, wanted)
+            let ssas = arguments(alloc, ssas)?;
+            finds(alloc, types, roots, (position, within), &ssas, wanted)
         }
-        Call::Shows(ssas, bytes) => shows(rt, types, roots, ssas, bytes),
+        Call::Shows(ssas, bytes) => {
+            let ssas = arguments(alloc, ssas)?;
+            shows(alloc, types, roots, &ssas, bytes)
+        }
     }
 }
 
@@ -244,19 +319,39 @@ pub static MADE: [Call; 20] = [
     Call::Add(1, 7),
 ];
 
-/// Whether these calls answer as they are to, on the anchor that `MADE` makes.
-pub fn all_answer(rt: &HostRuntime, calls: &[Call]) -> Result<bool, Fail> {
-    let types = types(rt.alloc())?;
-    let mut roots = List::new(rt.alloc());
-    for call in &MADE {
-        if !answers(rt, &types, &mut roots, *call)? {
-            return Ok(false);
-        }
-    }
+/// Whether these calls all answer as they are to, one after another.
+fn each_answers(
+    alloc: Global,
+    types: &List<SegDef>,
+    roots: &mut List<Root>,
+    calls: &[Call],
+) -> Result<bool, AllocError>
+    requires { AreTypes types.now }
+{
     for call in calls {
-        if !answers(rt, &types, &mut roots, *call)? {
+        if !answers(alloc, types, roots, call)? {
             return Ok(false);
         }
     }
     Ok(true)
+}
+
+/// Whether these calls answer as they are to, on the anchor that `MADE` makes.
+fn answer_on(alloc: Global, defs: &Defs, calls: &[Call]) -> Result<bool, AllocError>
+    requires { AreDefs defs.now }
+{
+    let Some(def) = defs.dedbs.get(0) else {
+        return Ok(false);
+    };
+    let mut roots = List::new(alloc);
+    Ok(
+        each_answers(alloc, &def.segments, &mut roots, &MADE)?
+            && each_answers(alloc, &def.segments, &mut roots, calls)?,
+    )
+}
+
+/// The same, by these definitions.
+pub fn all_answer(alloc: Global, calls: &[Call]) -> Result<bool, Fail> {
+    let defs = defs_of(alloc, DEFINITIONS)?;
+    Ok(answer_on(alloc, &defs, calls)?)
 }

@@ -81,24 +81,38 @@ fn argument(alloc: Global, name: [u8; 8], op: u8, operand: &[u8]) -> Result<Fsa,
     })
 }
 
-// The letter of one argument on a segment.
-fn letter(
-    alloc: Global,
-    name: [u8; 8],
-    op: u8,
-    operand: &[u8],
-    segment: &mut [u8],
-) -> Result<u8, AllocError>
-    requires { length segment.old ≡ 35 }
-{
-    let def = accounts(alloc)?;
+// A list of one argument.
+fn list_of(alloc: Global, argument_of: (&[u8; 8], u8, &[u8])) -> Result<List<Fsa>, AllocError> {
+    let (name, op, operand) = argument_of;
     let mut fsas = List::new(alloc);
-    fsas.push(argument(alloc, name, op, operand)?)?;
-    let good = try_fsas(&def, &mut fsas, segment);
-    match fsas.pop() {
-        Some(fsa) if good == (fsa.status == b' ') => Ok(fsa.status),
-        _ => Ok(b'!'),
+    fsas.push(argument(alloc, *name, op, operand)?)?;
+    Ok(fsas)
+}
+
+// The letter of the only argument, if what was said of all is so of it.
+fn letter_of(fsas: &[Fsa], good: bool) -> u8 {
+    match fsas {
+        [fsa] if good == (fsa.status == b' ') => fsa.status,
+        _ => b'!',
     }
+}
+
+// Whether one argument on this segment has this letter, and leaves that one.
+fn leaves(
+    alloc: Global,
+    def: &MsdbDef,
+    before: &[u8; 35],
+    argument: (&[u8; 8], u8, &[u8]),
+    letter: u8,
+    after: &[u8; 35],
+) -> Result<bool, AllocError>
+    requires stand { StandFrom 0 def.now.fields def.now.length }
+    requires length { def.now.length ≡ 35 }
+{
+    let mut segment = *before;
+    let mut fsas = list_of(alloc, argument)?;
+    let good = try_fsas(def, &mut fsas, &mut segment);
+    Ok(letter_of(fsas.as_slice(), good) == letter && segment == *after)
 }
 
 /// A field's name, an operation, an operand, and the letter. None of them changes anything.
@@ -164,10 +178,11 @@ static LETTERS: [([u8; 8], u8, &[u8], u8); 40] = [
 
 #[test]
 fn each_letter_once(rt: HostRuntime) -> Result<(), Fail> {
+    let def = accounts(rt.alloc())?;
     for (place, (name, op, operand, wanted)) in LETTERS.iter().enumerate() {
-        let mut segment = SEGMENT;
-        let found = letter(rt.alloc(), *name, *op, operand, &mut segment)?;
-        assert!(rt; found == *wanted && segment == SEGMENT, "at {place}");
+        let argument = (name, *op, *operand);
+        let is_so = leaves(rt.alloc(), &def, &SEGMENT, argument, *wanted, &SEGMENT)?;
+        assert!(rt; is_so, "at {place}");
     }
     Ok(())
 }
@@ -194,13 +209,18 @@ fn changed(at: usize, bytes: &[u8; 4]) -> [u8; 35] {
 
 #[test]
 fn good_changes_are_made(rt: HostRuntime) -> Result<(), Fail> {
+    let def = accounts(rt.alloc())?;
     for (place, (name, op, operand, at, wanted)) in CHANGES.iter().enumerate() {
-        let mut segment = SEGMENT;
-        let found = letter(rt.alloc(), *name, *op, operand, &mut segment)?;
-        assert!(rt;
-            found == b' ' && segment == changed(*at, wanted),
-            "at {place}"
-        );
+        let after = changed(*at, wanted);
+        let is_so = leaves(
+            rt.alloc(),
+            &def,
+            &SEGMENT,
+            (name, *op, *operand),
+            b' ',
+            &after,
+        )?;
+        assert!(rt; is_so, "at {place}");
     }
     Ok(())
 }
@@ -222,55 +242,61 @@ static ON_NO_NUMBER: [(u8, &[u8], u8, bool); 4] = [
 
 #[test]
 fn a_field_that_is_no_number(rt: HostRuntime) -> Result<(), Fail> {
+    let def = accounts(rt.alloc())?;
+    let broken = broken();
     for (place, (op, operand, wanted, is_right)) in ON_NO_NUMBER.iter().enumerate() {
-        let mut segment = broken();
-        let found = letter(rt.alloc(), *b"BAL     ", *op, operand, &mut segment)?;
-        let after = if *is_right { SEGMENT } else { broken() };
-        assert!(rt; found == *wanted && segment == after, "at {place}");
+        let argument = (b"BAL     ", *op, *operand);
+        let after = if *is_right { &SEGMENT } else { &broken };
+        let is_so = leaves(rt.alloc(), &def, &broken, argument, *wanted, after)?;
+        assert!(rt; is_so, "at {place}");
     }
     Ok(())
 }
 
-/// Four arguments on BAL: the second is bad, the others are made all the same.
-static FOUR: [(u8, &[u8]); 4] = [
-    (b'-', b"060"),
-    (b'H', b"060"),
-    (b'+', b"020"),
-    (b'E', b"060"),
-];
+/// Four arguments on BAL, as a list has them: the second is bad, the others are made all the same.
+const FOUR: [u8; 64] =
+    *b"BAL     ?-\x00\x03060*BAL     ?H\x00\x03060*BAL     ?+\x00\x03020*BAL     ?E\x00\x03060 ";
 
-fn four(alloc: Global) -> Result<List<Fsa>, AllocError> {
-    let mut fsas = List::new(alloc);
-    for (op, operand) in &FOUR {
-        fsas.push(argument(alloc, *b"BAL     ", *op, operand)?)?;
+// Whether these are four arguments with these letters.
+fn have_letters(fsas: &[Fsa], letters: [u8; 4]) -> bool {
+    match fsas {
+        [a, b, c, d] => [a.status, b.status, c.status, d.status] == letters,
+        _ => false,
     }
-    Ok(fsas)
+}
+
+// Whether the four get these letters and leave this segment.
+fn four_leave(alloc: Global, letters: [u8; 4], after: &[u8; 35]) -> Result<bool, AllocError> {
+    let def = accounts(alloc)?;
+    let mut segment = SEGMENT;
+    let Ok(mut fsas) = read_list(alloc, &FOUR) else {
+        return Ok(false);
+    };
+    let good = try_fsas(&def, &mut fsas, &mut segment);
+    Ok(!good && have_letters(fsas.as_slice(), letters) && segment == *after)
 }
 
 #[test]
 fn a_bad_argument_does_not_end_the_list(rt: HostRuntime) -> Result<(), Fail> {
-    let def = accounts(rt.alloc())?;
-    let mut fsas = four(rt.alloc())?;
-    let mut segment = SEGMENT;
-    assert!(rt; !try_fsas(&def, &mut fsas, &mut segment));
-    let letters = fsas.as_slice().iter().map(|fsa| fsa.status);
-    assert!(rt; letters.eq(*b" D  "));
-    assert!(rt; &segment[4..8] == b"\x00\x00\x06\x0c".as_slice());
+    let after = changed(4, b"\x00\x00\x06\x0c");
+    assert!(rt; four_leave(rt.alloc(), *b" D  ", &after)?);
     Ok(())
 }
 
 /// The two arguments of a withdrawal of 60: is BAL at least 60, and BAL less 60.
 const WITHDRAWAL: [u8; 30] = *b"BAL      H\x00\x0260*BAL      -\x00\x0260 ";
 
+// Whether they are read as two, and written again as they were.
+fn is_rewritten(alloc: Global) -> Result<bool, AllocError> {
+    let Ok(fsas) = read_list(alloc, &WITHDRAWAL) else {
+        return Ok(false);
+    };
+    let text = write_list(alloc, &fsas)?;
+    Ok(fsas.len() == 2 && text.as_slice() == WITHDRAWAL.as_slice())
+}
+
 #[test]
 fn a_list_is_read_and_written(rt: HostRuntime) -> Result<(), Fail> {
-    match read_list(rt.alloc(), &WITHDRAWAL) {
-        Ok(fsas) => {
-            assert!(rt; fsas.len() == 2);
-            let text = write_list(rt.alloc(), &fsas)?;
-            assert!(rt; text.as_slice() == WITHDRAWAL.as_slice());
-        }
-        Err(_) => assert!(rt; false),
-    }
+    assert!(rt; is_rewritten(rt.alloc())?);
     Ok(())
 }

@@ -132,29 +132,47 @@ fn group_of(exits: &Exits, kind: Kind, tran: [u8; 8], n: u64) -> Option<u64> {
     }
 }
 
+/// The first key that has another place than it is to have.
+fn first_other_key(exits: &Exits) -> Option<usize> {
+    for (place, (key, n, folded, ranged)) in KEYS.iter().enumerate() {
+        let found = place_of(exits, Kind::Fold, key, *n);
+        let other = place_of(exits, Kind::Range, key, *n);
+        if found != Some(*folded) || other != Some(*ranged) {
+            return Some(place);
+        }
+    }
+    None
+}
+
 #[test]
 fn keys_have_the_places_of_the_kinds(rt: HostRuntime) -> Result<(), Fail> {
     let calls = Rc::new(rt.alloc(), Cell::new(0u64))?;
     let exits = spreaders(rt.alloc(), calls.clone()?)?;
-    for (place, (key, n, folded, ranged)) in KEYS.iter().enumerate() {
-        let found = place_of(&exits, Kind::Fold, key, *n) == Some(*folded);
-        let other = place_of(&exits, Kind::Range, key, *n) == Some(*ranged);
-        assert!(rt; found && other, "key {place}");
-    }
+    let wrong = first_other_key(&exits);
+    assert!(rt; wrong.is_none(), "key {wrong:?}");
     // The stored function is called for each key.
     assert!(rt; calls.get() == 12);
     Ok(())
+}
+
+/// The first transaction that has another group than it is to have.
+fn first_other_transaction(exits: &Exits) -> Option<usize> {
+    for (place, (tran, n, folded, ranged)) in TRANSACTIONS.iter().enumerate() {
+        let found = group_of(exits, Kind::Fold, *tran, *n);
+        let other = group_of(exits, Kind::Range, *tran, *n);
+        if found != Some(*folded) || other != Some(*ranged) {
+            return Some(place);
+        }
+    }
+    None
 }
 
 #[test]
 fn transactions_have_the_groups_of_the_kinds(rt: HostRuntime) -> Result<(), Fail> {
     let calls = Rc::new(rt.alloc(), Cell::new(0u64))?;
     let exits = routers(rt.alloc(), calls.clone()?)?;
-    for (place, (tran, n, folded, ranged)) in TRANSACTIONS.iter().enumerate() {
-        let found = group_of(&exits, Kind::Fold, *tran, *n) == Some(*folded);
-        let other = group_of(&exits, Kind::Range, *tran, *n) == Some(*ranged);
-        assert!(rt; found && other, "transaction {place}");
-    }
+    let wrong = first_other_transaction(&exits);
+    assert!(rt; wrong.is_none(), "transaction {wrong:?}");
     // The stored function is called for each transaction.
     assert!(rt; calls.get() == 8);
     Ok(())
@@ -163,6 +181,5 @@ fn transactions_have_the_groups_of_the_kinds(rt: HostRuntime) -> Result<(), Fail
 #[test]
 fn no_exits_have_no_kind(rt: HostRuntime) {
     let none = Exits::new(Vec::new(rt.alloc()), Vec::new(rt.alloc()));
-    assert!(rt; none.spreader(Kind::Fold).is_none());
-    assert!(rt; none.router(Kind::Range).is_none());
+    assert!(rt; none.spreader(Kind::Fold).is_none() && none.router(Kind::Range).is_none());
 }

@@ -1,6 +1,6 @@
-//! A message line that is read, and a reply line. Each fault, border and outcome is data of a program above.
+//! Message lines that are read, and a reply line. Each fault, border and outcome is data of a program above.
 use fp_messages::{read_message, reply_line, terminal_of};
-use fp_model::{Bytes, Entry, List, Name, Outcome};
+use fp_model::{Bytes, Entry, List, Message, Name, Outcome};
 use std::test::Fail;
 
 /// A line.
@@ -9,23 +9,35 @@ const LINE: &[u8] = b"Z9 DEPOSIT A001 10";
 /// Its terminal.
 const Z9: Name = Name(*b"Z9      ");
 
-#[test]
-fn a_message_has_its_words_and_its_text(rt: HostRuntime) -> Result<(), Fail> {
-    let message = read_message(rt.alloc(), 1, LINE)?;
-    assert!(rt; message.lterm == Z9 && message.tran == Name(*b"DEPOSIT "));
-    assert!(rt; message.text.as_slice() == b"A001 10".as_slice());
-    assert!(rt; message.line.as_slice() == LINE);
-    assert!(rt; terminal_of(LINE) == Some(Z9));
-    Ok(())
+/// A format, a line of terminal Z9, and its transaction, its text and its number.
+static MESSAGES: [(u8, &[u8], &[u8; 8], &[u8], Option<u64>); 3] = [
+    (1, LINE, b"DEPOSIT ", b"A001 10", None),
+    (2, b"Z9 17 ASK A001", b"ASK     ", b"A001", Some(17)),
+    (2, LINE, b"DEPOSIT ", b"A001 10", None),
+];
+
+/// Whether a message was read so.
+fn is_message(
+    message: &Message,
+    line: &[u8],
+    tran: [u8; 8],
+    text: &[u8],
+    number: Option<u64>,
+) -> bool {
+    message.lterm == Z9
+        && message.tran == Name(tran)
+        && message.number == number
+        && message.text.as_slice() == text
+        && message.line.as_slice() == line
 }
 
 #[test]
-fn a_message_of_format_2_may_have_a_number(rt: HostRuntime) -> Result<(), Fail> {
-    let numbered = read_message(rt.alloc(), 2, b"Z9 17 ASK A001")?;
-    assert!(rt; numbered.number == Some(17));
-    assert!(rt; numbered.text.as_slice() == b"A001".as_slice());
-    let plain = read_message(rt.alloc(), 2, LINE)?;
-    assert!(rt; plain.number.is_none());
+fn a_message_has_its_words_its_text_and_its_number(rt: HostRuntime) -> Result<(), Fail> {
+    for (place, (format, line, tran, text, number)) in MESSAGES.iter().enumerate() {
+        let message = read_message(rt.alloc(), *format, line)?;
+        let is_so = is_message(&message, line, **tran, text, *number);
+        assert!(rt; is_so && terminal_of(line) == Some(Z9), "message {place}");
+    }
     Ok(())
 }
 

@@ -36,7 +36,7 @@ enum Answer {
 }
 
 /// Three regions want one anchor.
-static ONE_ANCHOR: [Step; 13] = [
+const ONE_ANCHOR: &[Step] = &[
     Step::AnyIn(0, 0, 9, false),
     Step::Ask(1, Wanted::Anchor(5), Mode::Share, Answer::Held),
     Step::Ask(2, Wanted::Anchor(5), Mode::Share, Answer::Held),
@@ -58,7 +58,7 @@ static ONE_ANCHOR: [Step; 13] = [
 ];
 
 /// Two regions want two keys crosswise.
-static TWO_KEYS: [Step; 7] = [
+const TWO_KEYS: &[Step] = &[
     Step::Ask(1, Wanted::Key(b"A1"), Mode::Exclusive, Answer::Held),
     Step::Ask(2, Wanted::Key(b"A2"), Mode::Exclusive, Answer::Held),
     Step::Ask(1, Wanted::Key(b"A2"), Mode::Share, Answer::Wait(&[2])),
@@ -127,16 +127,16 @@ fn first_wrong(alloc: Global, steps: &[Step]) -> Result<Option<usize>, AllocErro
     Ok(None)
 }
 
-#[test]
-fn three_regions_want_one_anchor(rt: HostRuntime) -> Result<(), Fail> {
-    let wrong = first_wrong(rt.alloc(), &ONE_ANCHOR)?;
-    assert!(rt; wrong.is_none(), "at {wrong:?}");
-    Ok(())
-}
+static RUNS: [(&str, &[Step]); 2] = [
+    ("three regions want one anchor", ONE_ANCHOR),
+    ("two keys are wanted crosswise", TWO_KEYS),
+];
 
 #[test]
-fn two_keys_are_wanted_crosswise(rt: HostRuntime) -> Result<(), Fail> {
-    let wrong = first_wrong(rt.alloc(), &TWO_KEYS)?;
-    assert!(rt; wrong.is_none(), "at {wrong:?}");
+fn regions_share_wait_and_deadlock(rt: HostRuntime) -> Result<(), Fail> {
+    for (name, steps) in &RUNS {
+        let wrong = first_wrong(rt.alloc(), steps)?;
+        assert!(rt; wrong.is_none(), "{name}: at {wrong:?}");
+    }
     Ok(())
 }

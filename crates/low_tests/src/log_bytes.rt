@@ -65,32 +65,35 @@ fn written_in_room(alloc: Global, bytes: &[u8]) -> Result<Vec<u8>, FormatFault> 
     Ok(again)
 }
 
-#[test]
-fn an_entry_is_read(rt: HostRuntime) -> Result<(), Fail> {
-    let mut wanted = List::new(rt.alloc());
-    wanted.push(deposit(rt.alloc())?)?;
-    assert!(rt; entries(rt.alloc(), &DEPOSIT)? == wanted);
-    Ok(())
+/// Whether it is read.
+fn is_read(alloc: Global) -> Result<bool, FormatFault> {
+    let found = entries(alloc, &DEPOSIT)?;
+    let wanted = deposit(alloc)?;
+    match found.as_slice() {
+        [only] => Ok(*only == wanted),
+        _ => Ok(false),
+    }
 }
 
 #[test]
-fn an_entry_is_written(rt: HostRuntime) -> Result<(), Fail> {
+fn an_entry_is_read_and_written(rt: HostRuntime) -> Result<(), Fail> {
+    assert!(rt; is_read(rt.alloc())?);
     assert!(rt; rewritten(rt.alloc(), &DEPOSIT)?.as_slice() == DEPOSIT.as_slice());
     let in_room = written_in_room(rt.alloc(), &DEPOSIT)?;
-    assert!(rt; in_room.as_slice() == DEPOSIT.as_slice());
-    assert!(rt; in_room.capacity() == 75);
+    assert!(rt; in_room.as_slice() == DEPOSIT.as_slice() && in_room.capacity() == 75);
     Ok(())
 }
 
-#[test]
-fn numbers_are_written_and_read(rt: HostRuntime) -> Result<(), Fail> {
-    let mut bytes = Bytes::new(rt.alloc());
+/// A number of two bytes, of four and of eight.
+const NUMBERS: [u8; 14] = [1, 2, 0, 0, 0, 3, 0, 0, 0, 0, 0, 0, 0, 4];
+
+/// Whether they are written.
+fn numbers_are_written(alloc: Global) -> Result<bool, AllocError> {
+    let mut bytes = Bytes::new(alloc);
     put_u16(&mut bytes, 0x0102)?;
     put_u32(&mut bytes, 0x03)?;
     put_u64(&mut bytes, 0x04)?;
-    let wanted = [1, 2, 0, 0, 0, 3, 0, 0, 0, 0, 0, 0, 0, 4];
-    assert!(rt; bytes.as_slice() == wanted.as_slice());
-    Ok(())
+    Ok(bytes.as_slice() == NUMBERS.as_slice())
 }
 
 /// The numbers at the front of bytes: of two bytes, of four and of eight.
@@ -101,55 +104,70 @@ fn three_numbers(bytes: &[u8]) -> Option<(u16, u32, u64)> {
     Some((two, four, eight))
 }
 
+/// Two numbers behind their count.
+const COUNTED: [u8; 20] =
+    *b"\x00\x00\x00\x02\x00\x00\x00\x00\x00\x00\x00\x07\x00\x00\x00\x00\x00\x00\x00\x08";
+
+/// Whether they are written and read.
+fn are_counted(alloc: Global) -> Result<bool, AllocError> {
+    let numbers = List::from_vec(Vec::from_slice(alloc, &[7u64, 8])?);
+    let mut bytes = Bytes::new(alloc);
+    put_numbers(&mut bytes, &numbers)?;
+    match numbers_of(alloc, &COUNTED) {
+        Ok((read, _)) => Ok(read == numbers && bytes.as_slice() == COUNTED.as_slice()),
+        Err(_) => Ok(false),
+    }
+}
+
 #[test]
-fn numbers_are_read(rt: HostRuntime) {
-    let bytes = [1, 2, 0, 0, 0, 3, 0, 0, 0, 0, 0, 0, 0, 4];
-    assert!(rt; three_numbers(&bytes) == Some((258, 3, 4)));
+fn numbers_are_written_and_read(rt: HostRuntime) -> Result<(), Fail> {
+    assert!(rt; numbers_are_written(rt.alloc())?);
+    assert!(rt; three_numbers(&NUMBERS) == Some((258, 3, 4)));
     assert!(rt; number_of(&[0, 0, 0, 0, 0, 0, 1, 1]) == 257);
-    let first = byte_of(&[5, 6]).ok().map(|(byte, _)| byte);
-    assert!(rt; first == Some(5));
+    assert!(rt; matches!(byte_of(&[5, 6]), Ok((5, _))));
+    assert!(rt; are_counted(rt.alloc())?);
+    Ok(())
 }
 
 /// Texts behind their length: `ab` in one byte, in two, in four.
 const TEXTS: [u8; 13] = *b"\x02ab\x00\x02ab\x00\x00\x00\x02ab";
 
-#[test]
-fn texts_are_written(rt: HostRuntime) -> Result<(), Fail> {
-    let mut bytes = Bytes::new(rt.alloc());
-    let text = Bytes::from_slice(rt.alloc(), b"ab")?;
+/// Whether they are written.
+fn texts_are_written(alloc: Global) -> Result<bool, AllocError> {
+    let text = Bytes::from_slice(alloc, b"ab")?;
+    let mut bytes = Bytes::new(alloc);
     put_short(&mut bytes, &text)?;
     put_long(&mut bytes, &text)?;
     put_part(&mut bytes, &text)?;
-    assert!(rt; bytes.as_slice() == TEXTS.as_slice());
-    Ok(())
+    Ok(bytes.as_slice() == TEXTS.as_slice())
+}
+
+/// What stands behind a text that was read, if it is this one.
+fn behind<'a>(read: (Bytes, &'a [u8]), text: &[u8]) -> Option<&'a [u8]> {
+    let (found, rest) = read;
+    if found.as_slice() != text {
+        return None;
+    }
+    Some(rest)
 }
 
 /// Whether bytes are this text behind a length of one byte, of two and of four.
-fn read_as_texts(alloc: Global, bytes: &[u8], text: &Bytes) -> Result<bool, ReadError> {
-    let (short, rest) = short_of(alloc, bytes)?;
-    let (long, rest) = long_of(alloc, rest)?;
-    let (part, rest) = part_text_of(alloc, rest)?;
-    let (none, rest) = part_of(alloc, 0, rest)?;
-    let are_texts = short == *text && long == *text && part == *text;
-    Ok(are_texts && none.is_empty() && rest.is_empty())
+fn read_as_texts(alloc: Global, bytes: &[u8], text: &[u8]) -> Result<bool, ReadError> {
+    let Some(rest) = behind(short_of(alloc, bytes)?, text) else {
+        return Ok(false);
+    };
+    let Some(rest) = behind(long_of(alloc, rest)?, text) else {
+        return Ok(false);
+    };
+    let Some(rest) = behind(part_text_of(alloc, rest)?, text) else {
+        return Ok(false);
+    };
+    Ok(behind(part_of(alloc, 0, rest)?, b"") == Some(b"".as_slice()))
 }
 
 #[test]
-fn texts_are_read(rt: HostRuntime) -> Result<(), Fail> {
-    let text = Bytes::from_slice(rt.alloc(), b"ab")?;
-    assert!(rt; read_as_texts(rt.alloc(), &TEXTS, &text)?);
-    Ok(())
-}
-
-#[test]
-fn numbers_behind_their_count(rt: HostRuntime) -> Result<(), Fail> {
-    let mut bytes = Bytes::new(rt.alloc());
-    let numbers = List::from_vec(Vec::from_slice(rt.alloc(), &[7u64, 8])?);
-    put_numbers(&mut bytes, &numbers)?;
-    let wanted =
-        *b"\x00\x00\x00\x02\x00\x00\x00\x00\x00\x00\x00\x07\x00\x00\x00\x00\x00\x00\x00\x08";
-    assert!(rt; bytes.as_slice() == wanted.as_slice());
-    let read = numbers_of(rt.alloc(), &wanted).ok().map(|(read, _)| read);
-    assert!(rt; read == Some(numbers));
+fn texts_are_written_and_read(rt: HostRuntime) -> Result<(), Fail> {
+    assert!(rt; texts_are_written(rt.alloc())?);
+    assert!(rt; read_as_texts(rt.alloc(), &TEXTS, b"ab")?);
     Ok(())
 }

@@ -6,12 +6,10 @@ use std::test::Fail;
 
 // A source with these messages, and a word in each other part.
 fn source_of(alloc: Global, messages: &[u8], failing: &[u64]) -> Result<MemorySource, Fail> {
-    let parts = [
-        Bytes::from_slice(alloc, b"defs")?,
-        Bytes::from_slice(alloc, b"scripts")?,
-        Bytes::from_slice(alloc, b"")?,
-        Bytes::from_slice(alloc, messages)?,
-    ];
+    let messages = Bytes::from_slice(alloc, messages)?;
+    let defs = Bytes::from_slice(alloc, b"defs")?;
+    let scripts = Bytes::from_slice(alloc, b"scripts")?;
+    let parts = [defs, scripts, Bytes::new(alloc), messages];
     Ok(MemorySource::new(alloc, parts, failing)?)
 }
 
@@ -60,13 +58,15 @@ impl Source for Slow {
     }
 }
 
-// What a fault of a line is called here.
-fn name_of(fault: LineFault) -> &'static [u8] {
-    match fault {
-        LineFault::TooLong(_) => b"too long",
-        LineFault::Failed => b"failed",
-        LineFault::TooMany(_) => b"too many",
-        LineFault::Memory => b"no memory",
+// A line, or what is said in place of one.
+fn said(line: &Result<Option<Bytes>, LineFault>) -> &[u8] {
+    match line {
+        Ok(Some(line)) => line.as_slice(),
+        Ok(None) => b"end",
+        Err(LineFault::TooLong(_)) => b"too long",
+        Err(LineFault::Failed) => b"failed",
+        Err(LineFault::TooMany(_)) => b"too many",
+        Err(LineFault::Memory) => b"no memory",
     }
 }
 
@@ -75,20 +75,12 @@ fn lines_text<S: Source>(alloc: Global, source: &mut S) -> Result<Vec<u8>, Fail>
     let mut lines = Lines::new(alloc)?;
     let mut text = Vec::new(alloc);
     for _ in 0..10000 {
-        match lines.next(source) {
-            Ok(Some(line)) => {
-                text.extend_from_slice(line.as_slice())?;
-                text.push(b'|')?;
-            }
-            Ok(None) => {
-                text.extend_from_slice(b"end")?;
-                return Ok(text);
-            }
-            Err(fault) => {
-                text.extend_from_slice(name_of(fault))?;
-                return Ok(text);
-            }
+        let line = lines.next(source);
+        text.extend_from_slice(said(&line))?;
+        if !matches!(line, Ok(Some(_))) {
+            break;
         }
+        text.push(b'|')?;
     }
     Ok(text)
 }
@@ -100,12 +92,13 @@ fn part_text<S: Source>(
     part: Part,
     limit: u64,
 ) -> Result<Vec<u8>, Fail> {
-    match whole(alloc, source, part, limit) {
-        Ok(bytes) => Ok(bytes.into_vec()),
-        Err(WholeFault::TooLong) => Ok(Vec::from_slice(alloc, b"too long")?),
-        Err(WholeFault::Failed) => Ok(Vec::from_slice(alloc, b"failed")?),
-        Err(WholeFault::Memory) => Ok(Vec::from_slice(alloc, b"no memory")?),
-    }
+    let said: &[u8] = match whole(alloc, source, part, limit) {
+        Ok(bytes) => return Ok(bytes.into_vec()),
+        Err(WholeFault::TooLong) => b"too long",
+        Err(WholeFault::Failed) => b"failed",
+        Err(WholeFault::Memory) => b"no memory",
+    };
+    Ok(Vec::from_slice(alloc, said)?)
 }
 
 #[test]

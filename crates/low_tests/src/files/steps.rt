@@ -50,25 +50,14 @@ pub(super) fn ends(rt: &HostRuntime, dir: &str, absent: &[&str]) -> Result<(), F
 }
 
 /// Takes the steps, each on its data set.
-pub(super) fn all_go(
-    rt: &impl Abort,
-    site: &mut TestSite<'_>,
-    rows: &[(u16, Step, Answer)],
-) -> Result<(), Fail> {
+pub(super) fn all_go(rt: &impl Abort, site: &mut TestSite<'_>, rows: &[(u16, Step, Answer)]) {
     for (place, (set, step, want)) in rows.iter().enumerate() {
         assert!(rt; take(site, *set, step) == *want, "step {place}");
     }
-    Ok(())
 }
 
 /// Takes the steps on a data set.
-pub(super) fn goes(
-    rt: &impl Abort,
-    site: &mut TestSite<'_>,
-    set: u16,
-    rows: &[(Step, Answer)],
-) -> Result<(), Fail> {
+pub(super) fn goes(rt: &impl Abort, site: &mut TestSite<'_>, set: u16, rows: &[(Step, Answer)]) {
     let wrong = first_wrong(site, set, rows);
     assert!(rt; wrong.is_none(), "data set {set} at {wrong:?}");
-    Ok(())
 }

@@ -71,53 +71,66 @@ fn each_call_told_to_fail_fails_and_is_counted(rt: HostRuntime) -> Result<(), Fa
     Ok(())
 }
 
-#[test]
-fn a_failed_write_leaves_mixed_bytes_in_its_range(rt: HostRuntime) -> Result<(), Fail> {
-    let alloc = rt.alloc();
-    let mut site = site_of(alloc, &[1; 40], &[0])?;
-    assert!(rt; site.write_at(0, 4, &[2; 32]) == Err(Failed));
-    let left = site.contents(0);
-    assert!(rt; left.len() == 40);
+// The first byte outside the range of 4 to 36 that isn't an old one.
+fn first_outside(left: &[u8]) -> Option<usize> {
+    for (i, byte) in left.iter().enumerate() {
+        if (i < 4 || 36 <= i) && *byte != 1 {
+            return Some(i);
+        }
+    }
+    None
+}
+
+// Whether there are old bytes, new ones, and others.
+fn is_mixed(range: &[u8]) -> bool {
     let (mut old, mut new, mut other) = (false, false, false);
-    for i in 0..40 {
-        match left[i] {
-            1 => old |= 4 <= i && i < 36,
+    for byte in range {
+        match *byte {
+            1 => old = true,
             2 => new = true,
             _ => other = true,
         }
-        assert!(rt;
-            4 <= i && i < 36 || left[i] == 1,
-            "byte {i} is outside the range"
-        );
     }
-    assert!(rt; old && new && other);
-    Ok(())
+    old && new && other
 }
 
 #[test]
-fn a_failed_send_leaves_a_prefix(rt: HostRuntime) -> Result<(), Fail> {
-    let alloc = rt.alloc();
+fn a_failed_write_leaves_mixed_bytes_in_its_range(rt: HostRuntime) -> Result<(), Fail> {
+    let mut site = site_of(rt.alloc(), &[1; 40], &[0])?;
+    assert!(rt; site.write_at(0, 4, &[2; 32]) == Err(Failed));
+    let left = site.contents(0);
+    assert!(rt; left.len() == 40 && is_mixed(&left[4..36]));
+    let outside = first_outside(left);
+    assert!(rt; outside.is_none(), "byte {outside:?} is outside the range");
+    Ok(())
+}
+
+// Whether a failed send leaves a prefix of its text.
+fn a_failed_send_leaves_a_prefix(alloc: Global) -> Result<bool, Fail> {
     let mut site = site_of(alloc, &[], &[0])?;
-    assert!(rt; site.send(b"T1 OK\n") == Err(Failed));
-    assert!(rt; site.sent() == b"line\nT1 ".as_slice());
-    Ok(())
+    Ok(site.send(b"T1 OK\n") == Err(Failed) && site.sent() == b"line\nT1 ".as_slice())
 }
 
-#[test]
-fn a_failed_read_gives_bytes_that_stand_nowhere(rt: HostRuntime) -> Result<(), Fail> {
-    let mut site = site_of(rt.alloc(), &[1, 2], &[0])?;
+// Whether a failed read gives bytes that stand nowhere.
+fn a_failed_read_gives_other_bytes(alloc: Global) -> Result<bool, Fail> {
+    let mut site = site_of(alloc, &[1, 2], &[0])?;
     let mut into = [0u8; 2];
-    assert!(rt; site.read_at(0, 0, &mut into) == Err(Failed));
-    assert!(rt; into.as_slice() == [0xA5, 0xA5].as_slice());
-    Ok(())
+    Ok(site.read_at(0, 0, &mut into) == Err(Failed) && into == [0xA5, 0xA5])
+}
+
+// Whether a call that finds no memory is short, and changes nothing.
+fn a_call_that_finds_no_memory_is_short(alloc: Global) -> Result<bool, Fail> {
+    let mut site = site_of(alloc, &[1, 2], &[])?;
+    let failed = site.write_at(0, 1 << 61, &[7]) == Err(Failed);
+    let stays = site.contents(0) == [1, 2].as_slice();
+    Ok(failed && stays && (site.faults(), site.shorts()) == (1, 1))
 }
 
 #[test]
-fn a_call_that_finds_no_memory_is_short(rt: HostRuntime) -> Result<(), Fail> {
-    let mut site = site_of(rt.alloc(), &[1, 2], &[])?;
-    assert!(rt; site.write_at(0, 1 << 61, &[7]) == Err(Failed));
-    assert!(rt; site.contents(0) == [1, 2].as_slice());
-    assert!(rt; site.faults() == 1 && site.shorts() == 1);
+fn failed_calls_leave_what_they_may(rt: HostRuntime) -> Result<(), Fail> {
+    assert!(rt; a_failed_send_leaves_a_prefix(rt.alloc())?);
+    assert!(rt; a_failed_read_gives_other_bytes(rt.alloc())?);
+    assert!(rt; a_call_that_finds_no_memory_is_short(rt.alloc())?);
     Ok(())
 }
 

@@ -1,4 +1,4 @@
-use Rattle.call_tests.proofs.systems.System.scripts.Goals as goal
+use Rattle.call_tests.proofs.systems.scripts_of.Goals as goal
 use Rattle.plain_laws.proofs.Results.{if_ok_then}
 
 pub returns-clause-setup : goal.returns-clause-setup
