@@ -1,12 +1,12 @@
 #!/usr/bin/env python3
 """run.py PROGRAM [--write] [--reps N] [--quick] [--work DIR]
 
-Measures the built program beside plain Rust of the same bytes and syncs, SQLite and LMDB, on this machine and in this
-run, and prints the tables of docs/BENCHMARKS.md. With --write it puts them there between their two marks, and draws
-docs/benchmarks.svg. It needs rustc, gcc, the headers of libsqlite3 and liblmdb, and /usr/bin/time. The programs that
-are compared run in turn, N times; each figure is the best of them.
+Measures the built program beside plain Rust of the same bytes and syncs, SQLite, LMDB, and an interpreter of the
+language in plain Rust, on this machine and in this run, and prints the tables of docs/BENCHMARKS.md. With --write it
+puts them there between their two marks, and draws docs/benchmarks.svg. It needs rustc, gcc, the headers of libsqlite3
+and liblmdb, and /usr/bin/time. The programs that are compared run in turn, N times; each figure is the best of them.
 
-The replies of all are compared, and the log with that of the plain program, byte for byte.
+The replies of all are compared, and the log with those of the plain program and of the interpreter, byte for byte.
 """
 import argparse
 import datetime
@@ -22,10 +22,13 @@ from loads import Load, emptied
 HERE = os.path.dirname(os.path.abspath(__file__))
 BOOK, PLOT = f"{HERE}/../docs/BENCHMARKS.md", f"{HERE}/../docs/benchmarks.svg"
 MARKS = "<!-- figures, by bench/run.py --write -->", "<!-- end of figures -->"
-NAMES = "program", "plain Rust", "SQLite", "LMDB"
+NAMES = "program", "plain Rust", "SQLite", "LMDB", "interpreting in plain Rust"
+# Of those that the plot has.
 COLOURS = "#30638e", "#9aa5b1", "#d1a25b", "#7a9e7e"
 GROUPS = 1, 100, 1_000
-PEERS = "plain", "sqlite_peer", "lmdb_peer"
+PEERS = "plain", "sqlite_peer", "lmdb_peer", "interpreter"
+# Those that write the program's log bytes.
+LOGGING = "plain", "interpreter"
 
 
 class Cost:
@@ -67,7 +70,9 @@ class Bench:
         self.program, self.reps, self.quick = os.path.abspath(words.program), words.reps, words.quick
         self.room = tempfile.mkdtemp(dir=words.work)
         self.serial = 0
-        subprocess.run(["rustc", "-O", "-o", f"{self.room}/plain", f"{HERE}/src/plain.rs"], check=True)
+        for name in LOGGING:
+            source = f"{HERE}/src/{name}.rs"
+            subprocess.run(["rustc", "--edition", "2021", "-O", "-o", f"{self.room}/{name}", source], check=True)
         for name, library in ("sqlite_peer", "-lsqlite3"), ("lmdb_peer", "-llmdb"):
             subprocess.run(["gcc", "-O2", "-o", f"{self.room}/{name}", f"{HERE}/src/{name}.c", library], check=True)
 
@@ -155,7 +160,7 @@ def compared(bench, folder, name, group):
     """A peer over the folder, once its replies are known to be the program's."""
     cost = bench.peer(name, folder, group)
     same(f"{folder}/replies", f"{folder}/peer_replies", name)
-    if name == "plain":
+    if name in LOGGING:
         same(f"{folder}/log", f"{folder}/peer", "the log")
     return cost
 
@@ -174,7 +179,7 @@ def beside(bench):
     """The tables beside the others: rates, processor times, peak memory, and a start over what was left; and the rates
     and processor times of each group."""
     lines = heads("`log_group`", *NAMES, *(f"to {name}" for name in NAMES[1:]))
-    times = heads("`log_group`", *(f"{name}, µs" for name in NAMES), "to plain Rust")
+    times = heads("`log_group`", *(f"{name}, µs" for name in NAMES), "to plain Rust", "interpreting to plain Rust")
     sizes = heads("`log_group`", *(f"{name}, MB" for name in NAMES), "to plain Rust")
     again = heads("`log_group`", "messages", *(f"{name}, ms" for name in NAMES), "to plain Rust")
     points = []
@@ -186,7 +191,8 @@ def beside(bench):
         found = bench.best(lambda: bench.run(folder), *makes)
         rates, costs = zip(*(cost.behind(start, load.count) for cost, start in zip(found, starts)))
         lines.append(row(group, *(f"{r:,.0f}" for r in rates), *(f"{rates[0] / r:.2f}" for r in rates[1:])))
-        times.append(row(group, *(f"{c:.2f}" for c in costs), f"{costs[0] / max(costs[1], 1e-3):.2f}"))
+        to_plain = [f"{cost / max(costs[1], 1e-3):.2f}" for cost in (costs[0], costs[-1])]
+        times.append(row(group, *(f"{c:.2f}" for c in costs), *to_plain))
         memory = [cost.memory / 1e6 for cost in found]
         sizes.append(row(group, *(f"{m:.1f}" for m in memory), f"{memory[0] / memory[1]:.2f}"))
         shutil.copy(f"{folder}/log", f"{folder}/front")
@@ -292,14 +298,14 @@ def plot(points):
     """For each size of a group a panel of bars, each panel to its own scale."""
     out = ['<svg xmlns="http://www.w3.org/2000/svg" width="680" height="300" font-family="sans-serif" font-size="11">',
            '<rect width="680" height="300" fill="white"/>', '<text x="20" y="22">messages a second</text>']
-    for place, name in enumerate(NAMES):
-        out.append(f'<rect x="{200 + 110 * place}" y="12" width="12" height="12" fill="{COLOURS[place]}"/>')
+    for place, (name, colour) in enumerate(zip(NAMES, COLOURS)):
+        out.append(f'<rect x="{200 + 110 * place}" y="12" width="12" height="12" fill="{colour}"/>')
         out.append(f'<text x="{217 + 110 * place}" y="22">{name}</text>')
     for column, (group, rates, _) in enumerate(points):
-        for place, rate in enumerate(rates):
+        for place, (rate, colour) in enumerate(zip(rates, COLOURS)):
             height, x = 200 * rate / max(rates), 30 + 220 * column + 48 * place
             size = f'width="42" height="{height:.0f}"'
-            out.append(f'<rect x="{x}" y="{260 - height:.0f}" {size} fill="{COLOURS[place]}"/>')
+            out.append(f'<rect x="{x}" y="{260 - height:.0f}" {size} fill="{colour}"/>')
             out.append(f'<text x="{x + 21}" y="{255 - height:.0f}" text-anchor="middle">{rate / 1000:,.0f}k</text>')
         out.append(f'<text x="{126 + 220 * column}" y="280" text-anchor="middle">log_group = {group}</text>')
     return "\n".join(out + ["</svg>"]) + "\n"
