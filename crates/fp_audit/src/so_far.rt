@@ -109,7 +109,8 @@ impl SoFar<'_> {
         requires place { self.old.place + 1 < 2 ^ 64 }
 
         ensures found { (h : History) → Stands self.old h → IfOk result
-            (Finds (EndsAlone (rules_by self.old) h e.now) (state_at (self.old.place + 1) self.new.pasts.items self.new.anchors)) }
+            (Finds (EndsAlone (rules_by self.old) h e.now)
+            (state_at (self.old.place + 1) self.new.pasts.items self.new.anchors)) }
         ensures keeps { Keeps self.old self.new }
         ensures next { OnOk result (AreReady self.old.defs.now (self.old.place + 1) self.new.pasts.items
             self.new.anchors) }
@@ -127,7 +128,8 @@ impl SoFar<'_> {
     fn was_refused(&self, e: &Entry) -> Result<bool, AllocError>
         requires ready { AreReady self.now.defs.now self.now.place self.now.pasts.items self.now.anchors }
         ensures { (h : History) → Stands self.now h → IfOk result
-            (Finds (WasRefused (rules_by self.now) h e.now) (state_at (self.now.place + 1) self.now.pasts.items self.now.anchors)) }
+            (Finds (WasRefused (rules_by self.now) h e.now)
+            (state_at (self.now.place + 1) self.now.pasts.items self.now.anchors)) }
     {
         if e.from > self.place {
             return Ok(false);

@@ -43,7 +43,8 @@ pub fn an_insert_and_another_of_the_key()
         (call.Isrt 1 [] (hex (codes "54303039 00000000")))).answer
         ≡ sample.answered (codes "  ") }
     ensures second { (reply_to sample_defs at_start at_start
-        (reply_to sample_defs at_start at_start (fresh sample_defs) (call.Isrt 1 [] (hex (codes "54303039 00000000")))).own
+        (reply_to sample_defs at_start at_start (fresh sample_defs)
+        (call.Isrt 1 [] (hex (codes "54303039 00000000")))).own
         (call.Isrt 1 [] (hex (codes "54303039 00000000")))).answer
         ≡ sample.answered (codes "XP") }
     ensures standing { (reply_to sample_defs at_start at_start (fresh sample_defs)

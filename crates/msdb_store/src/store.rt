@@ -332,7 +332,8 @@ impl MsdbStore {
         ensures of { (defs : ListOf DefOf) → IsOf defs self.old
             → IsStaged defs self.old.msdbs (record { items = items.now; inserts = 0 }) → IsOf defs self.new }
         ensures spare { (defs : ListOf DefOf) → IsOf defs self.old
-            → IsStaged defs self.old.msdbs (record { items = items.now; inserts = 0 }) → self.old.spare ≤ self.new.spare }
+            → IsStaged defs self.old.msdbs (record { items = items.now; inserts = 0 })
+            → self.old.spare ≤ self.new.spare }
     {
         for item in items.as_slice() {
             // It adds no segment, so it takes no memory and is done.

@@ -39,7 +39,8 @@ HasRoom defs dedbs inserts =
 
 -- What a transaction hands in fits these databases, beside some main storage databases: its changed anchors ascend by
 -- database and number, the roots of each fit it, and each sequential insert has its length.
-pub record FitsCommit (defs : Defs) (dedbs : List Dedb) (changes : List AnchorChange) (inserts : List SeqInsert) : Type 0 where
+pub record FitsCommit (defs : Defs) (dedbs : List Dedb) (changes : List AnchorChange) (inserts : List SeqInsert)
+    : Type 0 where
   pub msdbs : List Msdb
   pub in_order : changes_ascend changes ≡ true
   pub changed : AllByRecursion (FitsAnchorChange defs (state_of msdbs dedbs)) changes

@@ -55,7 +55,8 @@ pub fn audit<T: Site>(
     // At Ok all entries are legal, and their number is sent.
     ensures legal { T.told site.old → IfOk result
         (λ count. IsLegalLog defs.now scripts.now.scripts (as_front front.now) ((T.disk site.old).contents 0) count) }
-    ensures sent { T.told site.old → IfOk result (λ count. HasSent (T.disk site.old) (T.disk site.new) (legal_text count)) }
+    ensures sent { T.told site.old → IfOk result
+        (λ count. HasSent (T.disk site.old) (T.disk site.new) (legal_text count)) }
     ensures sends { T.told site.old
         → SendsVerdict defs.now scripts.now.scripts (as_front front.now) (T.disk site.old) (T.disk site.new) }
 

@@ -25,8 +25,8 @@ AllFall roots = AllByRecursion (λ root. AreFalling root.seqs) roots
 
 -- and at each root of some anchors from one on
 abbrev pub FallFrom : ℕ → ℕ → List (List Root) → Type 0
-FallFrom first n anchors = (at : ℕ) (roots : List Root) → first ≤ at → at < first + n → slice_get anchors at ≡ Some roots
-    → AllFall roots
+FallFrom first n anchors = (at : ℕ) (roots : List Root) → first ≤ at → at < first + n
+    → slice_get anchors at ≡ Some roots → AllFall roots
 
 -- whether the oldest has a serial below a begin
 abbrev pub ends_below : ℕ → List SeqItem → Bool
