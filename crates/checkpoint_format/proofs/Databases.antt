@@ -1,9 +1,8 @@
 -- Reading one database after another, as a loop does.
-use Rattle.std.proofs.Common.{◌≡◌, ℕ, List, [], ◌∷◌, ◌++◌, Option, Some, None, refl, sym, ◌∙◌, ap, append_assoc}
+use Rattle.std.proofs.Common.{◌≡◌, ◌≢◌, ℕ, List, [], ◌∷◌, ◌++◌, Option, Some, None, refl, sym, ◌∙◌, ap, append_assoc}
 use Rattle.std.proofs.lemmas.List.{append-nil}
 use Rattle.log_format.specs.declared.fault.ReadError.{ReadError}
-use Rattle.log_format.specs.declared.fault.ReadError.TheVariants as errors
-use Rattle.log_format.specs.Reading.{Fails}
+use Rattle.log_format.specs.declared.fault.ReadError.TheVariants.{Memory}
 use Rattle.fp_model.specs.Values.{◌>>=◌}
 use Rattle.log_format.proofs.Loop.{with_front}
 use Rattle.fp_model.specs.declared.database.Msdb.{Msdb}
@@ -26,12 +25,12 @@ one_more front def more bytes n after total h so_far =
     sym one ∙ so_far
 
 pub no_more : (e : ReadError) (front : List Msdb) (def : MsdbDef) (more : List MsdbDef) (bytes : List ℕ)
-    (total : Option (List Msdb × List ℕ)) → Fails e (msdb_at def bytes)
-    → with_front front (msdbs_at (def ∷ more) bytes) ≡ total → Fails e total
+    (total : Option (List Msdb × List ℕ)) → (e ≢ Memory → msdb_at def bytes ≡ None)
+    → with_front front (msdbs_at (def ∷ more) bytes) ≡ total → e ≢ Memory → total ≡ None
 unfolding msdbs_at
-no_more errors.Memory front def more bytes total h so_far = tt
-no_more errors.Bad front def more bytes total h so_far =
-    let one : with_front front (msdbs_at (def ∷ more) bytes) ≡ None = rw h refl in
+no_more e front def more bytes total h so_far other =
+    let none : msdb_at def bytes ≡ None = h other in
+    let one : with_front front (msdbs_at (def ∷ more) bytes) ≡ None = rw none refl in
     sym so_far ∙ one
 
 pub all_read : (front : List Msdb) (bytes : List ℕ) (total : Option (List Msdb × List ℕ))

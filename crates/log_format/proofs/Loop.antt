@@ -1,10 +1,13 @@
 -- Reading one element after another, as a loop does: what was read, and what is left to read.
-use Rattle.std.proofs.Common.{◌≡◌, ℕ, suc, ◌-◌, ◌+◌, ◌≤◌, ◌<◌, List, [], ◌∷◌, ◌++◌, Option, Some, None, refl, sym, ap, ◌∙◌, append_assoc, arith}
+use Rattle.std.proofs.Common.{◌≡◌, ◌≢◌, ℕ, suc, ◌-◌, ◌+◌, ◌≤◌, ◌<◌, List, [], ◌∷◌, ◌++◌, Option, Some, None, refl, sym, ap, ◌∙◌, append_assoc, arith}
 use Rattle.std.proofs.lemmas.List.{append-nil}
 use Rattle.log_format.specs.declared.fault.ReadError.{ReadError}
-use Rattle.log_format.specs.declared.fault.ReadError.TheVariants as errors
-use Rattle.log_format.specs.Reading.{Fails, many_at}
+use Rattle.log_format.specs.declared.fault.ReadError.TheVariants.{Bad, Memory}
+use Rattle.log_format.specs.Reading.{many_at}
 use Rattle.fp_model.specs.Values.{◌>>=◌}
+
+pub bad_is_other : Bad ≢ Memory
+bad_is_other same = absurd cc
 
 -- what was read before, and what is still read
 abbrev pub with_front : {X : Type 0} → List X → Option (List X × List ℕ) → Option (List X × List ℕ)
@@ -28,13 +31,13 @@ module _ {X : Type 0} (at : List ℕ → Option (X × List ℕ)) where
       sym one ∙ so_far
 
   pub ends : (e : ReadError) (front : List X) (count i : ℕ) (bytes : List ℕ) (total : Option (List X × List ℕ))
-      → i < count → Fails e (at bytes)
-      → with_front front (many_at at (count - i) bytes) ≡ total → Fails e total
+      → i < count → (e ≢ Memory → at bytes ≡ None)
+      → with_front front (many_at at (count - i) bytes) ≡ total → e ≢ Memory → total ≡ None
   unfolding many_at
-  ends errors.Memory front count i bytes total lt h so_far = tt
-  ends errors.Bad front count i bytes total lt h so_far =
+  ends e front count i bytes total lt h so_far other =
       let k : count - i ≡ suc (count - (i + 1)) = omega arith in
-      let one : with_front front (many_at at (count - i) bytes) ≡ None = rw (k, h) refl in
+      let none : at bytes ≡ None = h other in
+      let one : with_front front (many_at at (count - i) bytes) ≡ None = rw (k, none) refl in
       sym so_far ∙ one
 
   pub is_done : (front : List X) (count i : ℕ) (bytes : List ℕ) (total : Option (List X × List ℕ)) → count ≤ i

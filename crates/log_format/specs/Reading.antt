@@ -1,19 +1,14 @@
 -- Reading bytes from left to right: numbers, texts behind their length, lists behind their count.
-use Rattle.std.specs.Prelude.{◌≡◌, ℕ, zero, suc, List, [], ◌∷◌, length, take, drop, Option, Some, None, Result, Ok, Err, nat_lt, if◌then◌else◌}
+use Rattle.std.specs.Prelude.{ℕ, zero, suc, List, [], ◌∷◌, length, take, drop, Option, Some, None, Result, nat_lt, if◌then◌else◌}
 use Rattle.std.specs.Int.{Width, w16, w32, byte_len, from_be_bytes}
 use Rattle.log_format.specs.declared.fault.ReadError.{ReadError}
-use Rattle.log_format.specs.declared.fault.ReadError.TheVariants as errors
+use Rattle.log_format.specs.declared.fault.ReadError.TheVariants.{Memory}
 use Rattle.fp_model.specs.Values.{◌>>=◌}
+use Rattle.fp_model.specs.Readings.{FindsBut}
 
--- an error that is want of memory, or has bytes for its cause that can't be read
-abbrev pub Fails : {Y : Type 0} → ReadError → Option Y → Type 0
-Fails errors.Memory read = Unit {0}
-Fails errors.Bad read = read ≡ None
-
--- what a function returned, seen by view, is what reading gives, unless memory ran out
+-- What a function returned, seen by a view, is what reading gives, unless memory ran out.
 abbrev pub Gives : {X Y : Type 0} → (X → Y) → Result X ReadError → Option Y → Type 0
-Gives view (Ok x) read = read ≡ Some (view x)
-Gives view (Err e) read = Fails e read
+Gives view result read = FindsBut Memory view result read
 
 -- a byte, and the bytes behind it
 abbrev pub byte_at : List ℕ → Option (ℕ × List ℕ)

@@ -1,5 +1,5 @@
 -- What a choice, a loop and a field call do.
-use Rattle.std.proofs.Common.{◌≡◌, ◌∙◌, refl, sym, ap, subst, ℕ, zero, suc, List, [], ◌∷◌, map, Bool, true, false, if◌then◌else◌, Option, Some, None, Result, Ok, Err}
+use Rattle.std.proofs.Common.{◌≡◌, ◌≢◌, ◌∙◌, refl, sym, ap, subst, ℕ, zero, suc, List, [], ◌∷◌, map, Bool, true, false, if◌then◌else◌, Option, Some, None, Result, Ok, Err}
 use Rattle.fp_model.specs.declared.calls.Message.{Message}
 use Rattle.fp_model.specs.declared.calls.Call.{Call}
 use Rattle.fp_model.specs.declared.definitions.Defs.{Defs}
@@ -19,7 +19,6 @@ use Rattle.txn_machine.specs.declared.known.Known.{Known}
 use Rattle.txn_values.specs.declared.stop.Stop.{Stop}
 use Rattle.txn_values.specs.declared.stop.Stop.TheVariants as stop
 use Rattle.txn_machine.specs.inside.Doing.{Tries, Does, block_of, deed_of_loop, way_of}
-use Rattle.txn_values.specs.Giving.{Stops}
 use Rattle.txn_machine.specs.Knowing.{env_of}
 use Rattle.txn_machine.specs.Places.{choice_in, loop_in}
 
@@ -112,14 +111,18 @@ module _ (defs : Defs) (message : Message) where
   fld_none s db key fsas env is none =
       run_out s (open_statement.Fld db key fsas) env is ∙ ap (λ (o : Option Call). or_rolls o (λ a. called a env)) none
 
+no_value_is_other : stop.NoValue ≢ stop.Memory
+no_value_is_other same = absurd cc
+
 pub choice_stops : (defs : Defs) (message : Message) (known : Known) (s : Statement) (left : Operand)
     (comparison : Comparison)
     (right : Operand) (taken otherwise : List Statement) (e : Stop) (r : Result Deed Stop)
     → out-Statement s ≡ open_statement.If left comparison right taken otherwise
-    → Stops e (chosen defs message (env_of known []) left comparison right) → r ≡ Err e → Tries defs message known s r
+    → (e ≢ stop.Memory → chosen defs message (env_of known []) left comparison right ≡ None) → r ≡ Err e
+    → Tries defs message known s r
 choice_stops defs message known s left comparison right taken otherwise stop.NoValue r is h to =
     subst (λ (x : Result Deed Stop). Tries defs message known s x) (sym to)
-    (λ more. choice_none defs message s left comparison right taken otherwise (env_of known more) is h)
+    (λ more. choice_none defs message s left comparison right taken otherwise (env_of known more) is (h no_value_is_other))
 choice_stops defs message known s left comparison right taken otherwise stop.Memory r is h to =
     subst (λ (x : Result Deed Stop). Tries defs message known s x) (sym to) tt
 
@@ -127,9 +130,10 @@ pub fld_stops : (defs : Defs) (message : Message) (known : Known) (s : Statement
     (fsas : List FsaText) (e : Stop)
     (r : Result Deed Stop)
     → out-Statement s ≡ open_statement.Fld db key fsas
-    → Stops e (fld_call defs message (env_of known []) db key fsas) → r ≡ Err e → Tries defs message known s r
+    → (e ≢ stop.Memory → fld_call defs message (env_of known []) db key fsas ≡ None) → r ≡ Err e
+    → Tries defs message known s r
 fld_stops defs message known s db key fsas stop.NoValue r is h to =
     subst (λ (x : Result Deed Stop). Tries defs message known s x) (sym to)
-    (λ more. fld_none defs message s db key fsas (env_of known more) is h)
+    (λ more. fld_none defs message s db key fsas (env_of known more) is (h no_value_is_other))
 fld_stops defs message known s db key fsas stop.Memory r is h to =
     subst (λ (x : Result Deed Stop). Tries defs message known s x) (sym to) tt

@@ -5,7 +5,6 @@ use Rattle.fp_model.specs.Values.{◌>>=◌, empty_field, empty_segment, value_b
 use Rattle.fp_model.specs.Fsas.{with_field}
 use Rattle.std.specs.Prelude.{⊤, Result, Ok, Err, take}
 use Rattle.txn_values.specs.declared.stop.Stop.{Stop}
-use Rattle.txn_values.specs.declared.stop.Stop.TheVariants as stop
 use Rattle.txn_values.specs.inside.Giving.{PutsIn}
 use Rattle.txn_values.specs.Fields.{field_filled}
 
@@ -41,6 +40,5 @@ put_is_filled field segment new text (Ok done) long is =
     ∙ ap (λ (n : ℕ). Some (take field.at segment ++ new ++ drop (field.at + n) segment)) long
     ∙ ap (λ (bytes : List ℕ). Some bytes) (append_assoc (take field.at segment) new
     (drop (field.at + field.length) segment))
-put_is_filled field segment new text (Err stop.NoValue) long is =
-    ap (λ (o : Option (List ℕ)). o >>= (λ bytes. Some (with_field field bytes segment))) is
-put_is_filled field segment new text (Err stop.Memory) long is = tt
+put_is_filled field segment new text (Err e) long is = λ other.
+    ap (λ (o : Option (List ℕ)). o >>= (λ bytes. Some (with_field field bytes segment))) (is other)

@@ -7,7 +7,7 @@ use Rattle.checkpoint_format.proofs.terminals.numbered_of.Goals as goal
 use Rattle.plain_laws.proofs.Lists.{map_twice}
 
 pub returns-then-not-ascends : goal.returns-then-not-ascends
-returns-then-not-ascends c =
+returns-then-not-ascends c = λ other.
     none_numbered c.args.bytes.now c.in_ok-count.count c.in_ok-count.rest.now
     (map as_last c.in_ok-terminals.terminals.items) c.in_ok-terminals.rest.now c.in_ok-count.ensures
     c.in_ok-terminals.ensures

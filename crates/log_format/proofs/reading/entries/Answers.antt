@@ -1,5 +1,6 @@
 use Rattle.std.proofs.Common.{refl, arith, rules}
 use Rattle.log_format.proofs.Fields.{from_places}
+use Rattle.log_format.proofs.Loop.{bad_is_other}
 use Rattle.log_format.proofs.Bodies.{goes, bad, not_bad, some_bytes, all_read}
 use Rattle.log_format.proofs.reading.entries.Goals as goal
 
@@ -24,14 +25,17 @@ loop-rest-preserved c =
 
 -- where no entry begins
 pub returns-in-Err-Bad-clause-cause : goal.returns-in-Err-Bad-clause-cause
-returns-in-Err-Bad-clause-cause c = bad c.args.bytes.now c.loop-rest.found c.loop-rest.rest.now _
-    c.loop-rest.invariant.read c.loop-rest.invariant.parts (rw c.in-Err-Bad.field-0-is at c.in-Err-Bad.ensures)
+returns-in-Err-Bad-clause-cause c =
+    bad c.args.bytes.now c.loop-rest.found c.loop-rest.rest.now _
+    c.loop-rest.invariant.read c.loop-rest.invariant.parts
+    ((rw c.in-Err-Bad.field-0-is at c.in-Err-Bad.ensures) bad_is_other)
     (some_bytes c.loop-rest.rest.now (search rules)) refl
 
 pub returns-in-Err-Bad-clause-only : goal.returns-in-Err-Bad-clause-only
 returns-in-Err-Bad-clause-only c es is =
     not_bad c.args.bytes.now _ es (bad c.args.bytes.now c.loop-rest.found c.loop-rest.rest.now _
-    c.loop-rest.invariant.read c.loop-rest.invariant.parts (rw c.in-Err-Bad.field-0-is at c.in-Err-Bad.ensures)
+    c.loop-rest.invariant.read c.loop-rest.invariant.parts
+    ((rw c.in-Err-Bad.field-0-is at c.in-Err-Bad.ensures) bad_is_other)
     (some_bytes c.loop-rest.rest.now (search rules)) refl) is
 
 -- at the end

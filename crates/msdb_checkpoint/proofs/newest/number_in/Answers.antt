@@ -1,5 +1,6 @@
 use Rattle.std.proofs.Common.{◌≡◌, ◌∙◌, inr, ap, sym, get_or, take, drop, None, List, ℕ}
 use Rattle.checkpoint_format.specs.Reading.{head_at}
+use Rattle.log_format.proofs.Loop.{bad_is_other}
 use Rattle.msdb_checkpoint.proofs.Heads.{behind_gate, gate_is}
 use Rattle.msdb_checkpoint.proofs.newest.number_in.Goals as goal
 
@@ -21,7 +22,7 @@ returns-in-Err-Bad-clause-damaged g c place t is =
     let bytes = (g.S.Site.disk c.args.site.now).contents c.args.set in
     let front = c.in_ok-bytes.ensures.bytes t in
     let bad : head_at (take 16 (drop 1 c.in_ok-bytes.bytes)) ≡ None =
-    rw c.in-Err-Bad.field-0-is at c.in-Err-Bad.ensures in (
+    (rw c.in-Err-Bad.field-0-is at c.in-Err-Bad.ensures) bad_is_other in (
       cc,
       record {
         gate = sym (gate_is bytes) ∙ ap (λ l. get_or l 0 0) (sym front) ∙ c.if-bytes-ne1.false;
