@@ -34,30 +34,17 @@ fn has_key(form: Form, key: &str) -> bool
     ensures { result ≡ has_key form key.now }
 {
     match form {
-        Form::Top => {
-            key == "regions"
-                || key == "router"
-                || key == "log_group"
-                || key == "pool"
-                || key == "tries"
-                || key == "msdb"
-                || key == "dedb"
-        }
-        Form::Msdb => key == "name" || key == "fields" || key == "dynamic" || key == "load",
-        Form::Dedb => {
-            key == "name" || key == "randomizer" || key == "ci" || key == "segment" || key == "area"
-        }
-        Form::Segment => {
-            key == "name" || key == "fields" || key == "parent" || key == "sequential"
-        }
-        Form::Area => {
-            key == "name"
-                || key == "uows"
-                || key == "base"
-                || key == "overflow"
-                || key == "capacity"
-                || key == "copies"
-        }
+        Form::Top => matches!(
+            key,
+            "regions" | "router" | "log_group" | "pool" | "tries" | "msdb" | "dedb"
+        ),
+        Form::Msdb => matches!(key, "name" | "fields" | "dynamic" | "load"),
+        Form::Dedb => matches!(key, "name" | "randomizer" | "ci" | "segment" | "area"),
+        Form::Segment => matches!(key, "name" | "fields" | "parent" | "sequential"),
+        Form::Area => matches!(
+            key,
+            "name" | "uows" | "base" | "overflow" | "capacity" | "copies"
+        ),
     }
 }
 

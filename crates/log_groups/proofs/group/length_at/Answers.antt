@@ -1,4 +1,7 @@
 use Rattle.std.proofs.Common.{◌+◌, ◌∙◌, ap, arith}
+use Rattle.std.proofs.lemmas.Result.{IfOk-from_err}
+use Rattle.fp_lists.proofs.ContinuedLemmas.{continued_both}
+use Rattle.fp_site.proofs.Runs.{stays_then}
 use Rattle.fp_site.specs.Disk.{read_range}
 use Rattle.log_groups.proofs.BodyReads.{cut_short, length_read, no_length_is_damage, past_end_is_damage}
 use Rattle.log_groups.proofs.group.length_at.Goals.{then-size-lt9-via-then-size-lt9, then-size-lt9-via-else-size-lt9+then-at-size}
@@ -48,3 +51,91 @@ returns-clause-found g c t =
           (omega (arith, size, c.if-size-lt9.false, c.if-at-size.false)) read;
       inside = omega (arith, size, c.if-size-lt9.false, c.if-at-size.false, c.if-len-size.false);
     }
+
+-- ---- the size can't be asked
+
+pub returns-in_err-size-clause-found : goal.returns-in_err-size-clause-found
+returns-in_err-size-clause-found g c t = IfOk-from_err c.from_residual.result _ c.from_residual.ensures.0
+
+pub returns-in_err-size-clause-none : goal.returns-in_err-size-clause-none
+returns-in_err-size-clause-none g c t one = IfOk-from_err c.from_residual.result _ c.from_residual.ensures.0
+
+pub returns-in_err-size-clause-within : goal.returns-in_err-size-clause-within
+returns-in_err-size-clause-within g c = IfOk-from_err c.from_residual.result _ c.from_residual.ensures.0
+
+pub returns-in_err-size-clause-count : goal.returns-in_err-size-clause-count
+returns-in_err-size-clause-count g c told = IfOk-from_err c.from_residual.result _ c.from_residual.ensures.0
+
+pub returns-in_err-size-clause-stays : goal.returns-in_err-size-clause-stays
+returns-in_err-size-clause-stays g c = c.size.ensures.stays
+
+pub returns-in_err-size-clause-site : goal.returns-in_err-size-clause-site
+returns-in_err-size-clause-site g c = c.size.ensures.site
+
+-- ---- the length can't be read
+
+pub returns-in_err-read_at-clause-found : goal.returns-in_err-read_at-clause-found
+returns-in_err-read_at-clause-found g c t =
+    IfOk-from_err c.from_residual-in_err-read_at.result _ c.from_residual-in_err-read_at.ensures.0
+
+pub returns-in_err-read_at-clause-none : goal.returns-in_err-read_at-clause-none
+returns-in_err-read_at-clause-none g c t one =
+    IfOk-from_err c.from_residual-in_err-read_at.result _ c.from_residual-in_err-read_at.ensures.0
+
+pub returns-in_err-read_at-clause-within : goal.returns-in_err-read_at-clause-within
+returns-in_err-read_at-clause-within g c =
+    IfOk-from_err c.from_residual-in_err-read_at.result _ c.from_residual-in_err-read_at.ensures.0
+
+pub returns-in_err-read_at-clause-count : goal.returns-in_err-read_at-clause-count
+returns-in_err-read_at-clause-count g c told =
+    IfOk-from_err c.from_residual-in_err-read_at.result _ c.from_residual-in_err-read_at.ensures.0
+
+pub returns-in_err-read_at-clause-stays : goal.returns-in_err-read_at-clause-stays
+returns-in_err-read_at-clause-stays g c t =
+    let t1 = c.size.ensures.site.still_told t in
+    stays_then _ _ _ (g.met.S.Site.lawful c.args.site.now t) (g.met.S.Site.lawful c.size.new.self t1)
+    (c.size.ensures.stays t) (c.read_at.ensures.stays t1)
+
+pub returns-in_err-read_at-clause-site : goal.returns-in_err-read_at-clause-site
+returns-in_err-read_at-clause-site g c = continued_both _ _ _ _ _ _ _ c.size.ensures.site c.read_at.ensures.site
+
+pub returns-in_err-read_at-clause-reads : goal.returns-in_err-read_at-clause-reads
+returns-in_err-read_at-clause-reads g c k told =
+    let none = c.size.ensures.reads k (c.read_at.ensures.reads k told) in
+    (none.0, λ other. c.read_at.ensures.others k other told ∙ none.1)
+
+-- ---- nothing changes
+
+pub returns-then-size-lt9-clause-stays : goal.returns-then-size-lt9-clause-stays
+returns-then-size-lt9-clause-stays g c = c.size.ensures.stays
+
+pub returns-then-size-lt9-clause-site : goal.returns-then-size-lt9-clause-site
+returns-then-size-lt9-clause-site g c = c.size.ensures.site
+
+pub returns-then-len-eq0-clause-stays : goal.returns-then-len-eq0-clause-stays
+returns-then-len-eq0-clause-stays g c t =
+    let t1 = c.size.ensures.site.still_told t in
+    stays_then _ _ _ (g.met.S.Site.lawful c.args.site.now t) (g.met.S.Site.lawful c.size.new.self t1)
+    (c.size.ensures.stays t) (c.read_at.ensures.stays t1)
+
+pub returns-then-len-eq0-clause-site : goal.returns-then-len-eq0-clause-site
+returns-then-len-eq0-clause-site g c = continued_both _ _ _ _ _ _ _ c.size.ensures.site c.read_at.ensures.site
+
+pub returns-then-len-eq0-clause-reads : goal.returns-then-len-eq0-clause-reads
+returns-then-len-eq0-clause-reads g c k told =
+    let none = c.size.ensures.reads k (c.read_at.ensures.reads k told) in
+    (none.0, λ other. c.read_at.ensures.others k other told ∙ none.1)
+
+pub returns-clause-stays : goal.returns-clause-stays
+returns-clause-stays g c t =
+    let t1 = c.size.ensures.site.still_told t in
+    stays_then _ _ _ (g.met.S.Site.lawful c.args.site.now t) (g.met.S.Site.lawful c.size.new.self t1)
+    (c.size.ensures.stays t) (c.read_at.ensures.stays t1)
+
+pub returns-clause-site : goal.returns-clause-site
+returns-clause-site g c = continued_both _ _ _ _ _ _ _ c.size.ensures.site c.read_at.ensures.site
+
+pub returns-clause-reads : goal.returns-clause-reads
+returns-clause-reads g c k told =
+    let none = c.size.ensures.reads k (c.read_at.ensures.reads k told) in
+    (none.0, λ other. c.read_at.ensures.others k other told ∙ none.1)
