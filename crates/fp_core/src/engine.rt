@@ -101,13 +101,20 @@ fn idle_regions(alloc: Global, count: usize) -> Result<List<Region>, AllocError>
     Ok(regions)
 }
 
+/// Puts a value in the place of another, which is let go.
+pub(crate) fn put<T: Drop>(place: &mut T, value: T)
+    ensures { place.new ≡ value }
+{
+    *place = value;
+}
+
 /// Puts a region in the place of the one of this number.
 pub(crate) fn set_region(regions: &mut List<Region>, region: u8, to: Region)
     requires some { 1 ≤ region }
     requires within { region ≤ length regions.old }
     ensures { regions.new ≡ slice_set regions.old (region - 1) to }
 {
-    *regions.item_mut(usize::from(region) - 1) = to;
+    put(regions.item_mut(usize::from(region) - 1), to);
 }
 
 impl<'a> Engine<'a> {

@@ -14,7 +14,7 @@ ghost use Rattle.sync_point.specs.Refusals.{bare_entry};
 
 use crate::did::Did;
 use crate::ending::append_owed;
-use crate::engine::{Active, Engine, Region, set_region};
+use crate::engine::{Active, Engine, Region, put, set_region};
 use crate::numbering::{Kept, keep};
 use crate::taking::start;
 use dli_calls::Work;
@@ -106,10 +106,10 @@ fn begin_again(active: &mut Active, from: u64, program: Program, work: Work)
     } }
 {
     active.from = from;
-    active.program = program;
-    active.work = work;
+    put(&mut active.program, program);
+    put(&mut active.work, work);
     active.tries += 1;
-    active.ahead = Option::None;
+    put(&mut active.ahead, Option::None);
 }
 
 impl Engine<'_> {
