@@ -318,9 +318,9 @@ nothing engine m (suc place) group some s in_group idle none =
     nothing_here engine m place group s (subst (λ p. slice_get engine.defs.now.regions p ≡ Some group) e in_group)
     (subst (λ p. slice_get engine.regions p ≡ Some regions.Idle) e idle) none
 
-pub takes : (engine : Engine) (m : Machine) (place group region : ℕ) → suc place ≡ region → (s : StandsFor engine m)
-    → slice_get engine.defs.now.regions place ≡ Some group
-    → slice_get engine.regions place ≡ Some regions.Idle
+pub takes : (engine : Engine) (m : Machine) (group region : ℕ) → 1 ≤ region → (s : StandsFor engine m)
+    → slice_get engine.defs.now.regions (region - 1) ≡ Some group
+    → slice_get engine.regions (region - 1) ≡ Some regions.Idle
     → (message : Message) (active : Active) (backlog : Backlog) (log : LogState) (owed : VecDeque Owed Global)
     (room : ℕ) (lasts : Numbered)
     → slice_get (queue_of group engine.queues) 0 ≡ Some message
@@ -348,25 +348,29 @@ pub takes : (engine : Engine) (m : Machine) (place group region : ℕ) → suc p
     (record { from = active.from; message = message; point = begun (rules_in engine); notes = []; tries = 0 })
     → Turned (event.Region region) m (record engine {
       queues = backlog;
-      regions = slice_set engine.regions place (regions.Active active);
+      regions = slice_set engine.regions (region - 1) (regions.Active active);
       log = log;
       owed = owed;
       room = room;
       lasts = lasts;
     }) did.Took
-takes engine m place group region numbered s in_group idle message active backlog log owed room lasts oldest rest busy
+takes engine m group zero some s in_group idle message active backlog log owed room lasts oldest rest busy
+    same items slots more spare terminals numbers from is_message b = absurd (omega (arith, some))
+takes engine m group (suc place) some s in_group idle message active backlog log owed room lasts oldest rest busy
     same items slots more spare terminals numbers from is_message b =
-    let engine2 : Engine = record engine {
+    let e : suc place - 1 ≡ place = omega arith in
+    let after : ℕ → Engine = λ n. record engine {
       queues = backlog;
-      regions = slice_set engine.regions place (regions.Active active);
+      regions = slice_set engine.regions n (regions.Active active);
       log = log;
       owed = owed;
       room = room;
       lasts = lasts;
     } in
-    subst (λ (n : ℕ). Turned (event.Region n) m engine2 did.Took) numbered
-    (takes_here engine m place group s in_group idle message active backlog log owed room lasts oldest rest busy
-    same items slots more spare terminals numbers
+    subst (λ (n : ℕ). Turned (event.Region (suc place)) m (after n) did.Took) (sym e)
+    (takes_here engine m place group s (subst (λ p. slice_get engine.defs.now.regions p ≡ Some group) e in_group)
+    (subst (λ p. slice_get engine.regions p ≡ Some regions.Idle) e idle)
+    message active backlog log owed room lasts oldest rest busy same items slots more spare terminals numbers
     (record {
       from = from ∙ s.count;
       message = is_message;

@@ -12,7 +12,7 @@ ghost use Rattle.std.specs.Prelude.{◌≡◌, ◌≤◌, IfOk, OnErr, length};
 
 use crate::did::Did;
 use crate::ending::owed_of;
-use crate::engine::{Active, Engine, Region};
+use crate::engine::{Active, Engine, Region, set_region};
 use crate::numbering::{keep, kept_of};
 use crate::refusing::{notes_of, refused_entry};
 use fp_model::{Bytes, Outcome};
@@ -95,7 +95,7 @@ impl Engine<'_> {
             Ok(entry) => {
                 self.owed.push_back_reserved(owed_of(entry));
                 keep(&mut self.lasts, kept);
-                *self.regions.item_mut(usize::from(region) - 1) = Region::Idle;
+                set_region(&mut self.regions, region, Region::Idle);
                 self.locks.release_all(region);
                 self.room = room;
                 Ok(Did::Committed)

@@ -13,7 +13,7 @@ ghost use Rattle.std.specs.Prelude.{◌≡◌, ◌≤◌, ◌<◌, ◌-◌, ◌+
 ghost use Rattle.std.specs.VecDeque.{deque_capacity};
 ghost use Rattle.sync_point.specs.Refusals.{refusal_room};
 
-use crate::engine::{Active, Engine, Owed, Region};
+use crate::engine::{Active, Engine, Owed, Region, set_region};
 use crate::numbering::{keep, kept_of};
 use fp_model::Entry;
 use log_groups::Log;
@@ -140,7 +140,7 @@ impl Engine<'_> {
         )?;
         append_owed(&mut self.log, &mut self.owed, entry, room)?;
         keep(&mut self.lasts, kept);
-        *self.regions.item_mut(usize::from(region) - 1) = Region::Idle;
+        set_region(&mut self.regions, region, Region::Idle);
         self.locks.release_all(region);
         self.room = room;
         Ok(())

@@ -6,7 +6,7 @@ ghost use Rattle.fp_model.specs.Lasts.{format_at, lasts_of};
 ghost use Rattle.fp_model.specs.Machine.{at_rest};
 ghost use Rattle.fp_model.specs.Product.{rules_of};
 ghost use Rattle.msdb_store.specs.Store.{IsOf};
-ghost use Rattle.std.specs.Prelude.{◌≡◌, ◌≤◌, ◌-◌, ℕ, [], IfOk, List as ListOf, Some, length, replicate, slice_get};
+ghost use Rattle.std.specs.Prelude.{◌≡◌, ◌≤◌, ◌-◌, ℕ, [], IfOk, List as ListOf, Some, length, replicate, slice_get, slice_set};
 
 use crate::numbering::Kept;
 use crate::stepping::Started;
@@ -99,6 +99,22 @@ fn idle_regions(alloc: Global, count: usize) -> Result<List<Region>, AllocError>
         regions.push(Region::Idle)?;
     }
     Ok(regions)
+}
+
+/// Puts a value in the place of another, which is let go.
+pub(crate) fn put<T: Drop>(place: &mut T, value: T)
+    ensures { place.new ≡ value }
+{
+    *place = value;
+}
+
+/// Puts a region in the place of the one of this number.
+pub(crate) fn set_region(regions: &mut List<Region>, region: u8, to: Region)
+    requires some { 1 ≤ region }
+    requires within { region ≤ length regions.old }
+    ensures { regions.new ≡ slice_set regions.old (region - 1) to }
+{
+    put(regions.item_mut(usize::from(region) - 1), to);
 }
 
 impl<'a> Engine<'a> {

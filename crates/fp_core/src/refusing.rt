@@ -14,46 +14,31 @@ ghost use Rattle.sync_point.specs.Refusals.{bare_entry};
 
 use crate::did::Did;
 use crate::ending::append_owed;
-use crate::engine::{Active, Engine, Region};
+use crate::engine::{Active, Engine, Region, put, set_region};
 use crate::numbering::{Kept, keep};
 use crate::taking::start;
 use dli_calls::Work;
-use fp_model::{Bytes, Entry, List, Message, Outcome};
+use fp_model::{Bytes, Entry, List, Outcome};
 use std::alloc::{AllocError, Global};
 use std::mem::replace;
 use sync_point::refusal_room;
 use txn_machine::Program;
 
-// The entry of a transaction that is refused for want of memory, and what is kept of its number. Takes none.
-fn bare_parts(alloc: Global, active: Active) -> (Entry, Option<Kept>)
-    ensures entry { result.0 ≡ bare_entry active.from Memory active.message.line }
-    ensures kept { result.1 ≡ active.refusal }
+// The entry of a transaction that is refused for want of memory, and what is kept of its number: both go out of it.
+// Takes none.
+fn bare_parts(alloc: Global, active: &mut Active) -> (Entry, Option<Kept>)
+    ensures entry { result.0 ≡ bare_entry active.old.from Memory active.old.message.line }
+    ensures kept { result.1 ≡ active.old.refusal }
 {
-    let Active {
-        from,
-        message,
-        program: _,
-        work: _,
-        tries: _,
-        ahead: _,
-        refusal,
-    } = active;
-    let Message {
-        lterm: _,
-        tran: _,
-        text: _,
-        line,
-        number: _,
-    } = message;
     let entry = Entry {
-        from,
+        from: active.from,
         outcome: Outcome::Memory,
-        line,
+        line: replace(&mut active.message.line, Bytes::new(alloc)),
         reply: Bytes::new(alloc),
         notes: List::new(alloc),
         items: List::new(alloc),
     };
-    (entry, refusal)
+    (entry, active.refusal.take())
 }
 
 // An entry has fewer notes than this.
@@ -121,10 +106,10 @@ fn begin_again(active: &mut Active, from: u64, program: Program, work: Work)
     } }
 {
     active.from = from;
-    active.program = program;
-    active.work = work;
+    put(&mut active.program, program);
+    put(&mut active.work, work);
     active.tries += 1;
-    active.ahead = Option::None;
+    put(&mut active.ahead, Option::None);
 }
 
 impl Engine<'_> {
@@ -144,15 +129,13 @@ impl Engine<'_> {
         ensures count { length self.new.regions ≡ length self.old.regions }
     {
         let room = self.room - refusal_room(&self.active_in(region).message.line);
-        let (entry, kept) = match replace(
-            self.regions.item_mut(usize::from(region) - 1),
-            Region::Idle,
-        ) {
+        let (entry, kept) = match self.regions.item_mut(usize::from(region) - 1) {
             Region::Active(active) => bare_parts(self.alloc, active),
             Region::Idle => unreachable!(),
         };
         let _ = append_owed(&mut self.log, &mut self.owed, entry, room); // there is room for it
         keep(&mut self.lasts, kept);
+        set_region(&mut self.regions, region, Region::Idle);
         self.locks.release_all(region);
         self.room = room;
     }

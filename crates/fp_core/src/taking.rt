@@ -16,7 +16,7 @@ ghost use Rattle.std.specs.VecDeque.{deque_capacity};
 ghost use Rattle.sync_point.specs.Refusals.{refusal_room};
 
 use crate::did::Did;
-use crate::engine::{Active, Engine, Owed, Region};
+use crate::engine::{Active, Engine, Owed, Region, set_region};
 use crate::numbering::{Kept, kept_of};
 use balancing::Lasts;
 use dli_calls::Work;
@@ -83,21 +83,18 @@ struct Begun {
     work: Work,
     // What is kept of its number where it is refused for want of memory.
     refusal: Option<Kept>,
-    // The room of refusals, with that of its own.
-    room: u64,
 }
 
-// A script at its beginning, and what its refusal takes.
+// A script at its beginning, and what is kept of its refusal.
 fn begin(
     alloc: Global,
     defs: &Defs,
     scripts: &Scripts,
     message: &Message,
-    room: u64,
 ) -> Result<Begun, AllocError>
     requires named { (script : Script) × (script_of scripts.now.scripts message.now.tran ≡ Some script) }
     requires short { IsShort message.now.line }
-    ensures is { (from : ℕ) → IfOk result (λ made. IsTransaction defs.now scripts.now.scripts
+    ensures { (from : ℕ) → IfOk result (λ made. IsTransaction defs.now scripts.now.scripts
         (record {
           from = from;
           message = message.now;
@@ -115,29 +112,30 @@ fn begin(
               [];
           tries = 0;
         })) }
-    ensures room { IfOk result (λ made. made.room ≡ room + refusal_room message.now.line) }
 {
-    let room = room_with(room, &message.line)?;
     let refusal = kept_of(alloc, message, &Outcome::Memory, &[])?;
     let (program, work) = start(alloc, defs, scripts, message)?;
     Ok(Begun {
         program,
         work,
         refusal,
-        room,
     })
 }
 
-// Makes room in the log for entries of so many bytes, for so many more that are owed, and for so many numbers.
+// Makes room in the log for the refusal of this line beside the others, which take so many bytes, for so many more that
+// are owed, and for so many numbers. It gives the room of all refusals.
 fn make_room(
     log: &mut Log,
     owed: &mut VecDeque<Owed>,
     lasts: &mut Lasts,
-    room: u64,
+    others: u64,
+    line: &Bytes,
     slots: usize,
-) -> Result<(), AllocError>
+) -> Result<u64, AllocError>
+    requires short { IsShort line.now }
     requires few { slots ≤ 64 }
-    ensures room { OnOk result (room ≤ log.new.spare) }
+    ensures sum { IfOk result (λ room. room ≡ others + refusal_room line.now) }
+    ensures room { IfOk result (λ room. room ≤ log.new.spare) }
     ensures slots { OnOk result (length owed.new.items + slots ≤ deque_capacity owed.new) }
     ensures places { OnOk result (slots ≤ lasts.new.spare) }
 
@@ -150,9 +148,11 @@ fn make_room(
     ensures lasts { lasts.new.terminals ≡ lasts.old.terminals }
     ensures numbers { lasts.old.spare ≤ lasts.new.spare }
 {
+    let room = room_with(others, line)?;
     owed.reserve(slots)?;
     lasts.reserve(slots as u32)?;
-    log.reserve(room)
+    log.reserve(room)?;
+    Ok(room)
 }
 
 impl Engine<'_> {
@@ -182,39 +182,38 @@ impl Engine<'_> {
         ensures gate { self.new.log.gate ≡ self.old.log.gate }
         ensures count { length self.new.regions ≡ length self.old.regions }
     {
-        let place = usize::from(region) - 1;
         let group = self.group_of(region);
         let from = self.log.count();
-        let begun = match self.queues.oldest(group) {
+        let message = match self.queues.oldest(group) {
             Option::None => return Ok(Did::Nothing),
-            Some(message) => begin(self.alloc, self.defs, self.scripts, message, self.room)?,
+            Some(message) => message,
         };
-        let Begun {
-            program,
-            work,
-            refusal,
-            room,
-        } = begun;
-        make_room(
+        let room = make_room(
             &mut self.log,
             &mut self.owed,
             &mut self.lasts,
-            room,
+            self.room,
+            &message.line,
             self.regions.len(),
         )?;
+        let begun = begin(self.alloc, self.defs, self.scripts, message)?;
         let Some(message) = self.queues.take(group) else {
             unreachable!()
         };
         self.room = room;
-        *self.regions.item_mut(place) = Region::Active(Active {
-            from,
-            message,
-            program,
-            work,
-            tries: 0,
-            ahead: Option::None,
-            refusal,
-        });
+        set_region(
+            &mut self.regions,
+            region,
+            Region::Active(Active {
+                from,
+                message,
+                program: begun.program,
+                work: begun.work,
+                tries: 0,
+                ahead: Option::None,
+                refusal: begun.refusal,
+            }),
+        );
         Ok(Did::Took)
     }
 }

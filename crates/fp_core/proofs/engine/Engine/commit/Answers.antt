@@ -1,7 +1,7 @@
 use Rattle.plain_laws.proofs.Results.{on_err}
 use Rattle.std.proofs.lemmas.List.{length-set}
 use Rattle.std.proofs.lemmas.Result.{IfOk-from_err}
-use Rattle.std.proofs.Common.{◌≡◌, refl, ◌∙◌, sym, ap, subst, arith, [], ◌∷◌, ◌++◌, ◌+◌, ◌≤◌, ℕ, ◌-◌, List, length, Option, slice_set}
+use Rattle.std.proofs.Common.{◌≡◌, refl, ◌∙◌, sym, ap, subst, arith, [], ◌∷◌, ◌++◌, ◌+◌, ◌≤◌, ℕ, ◌-◌, List, length, Option}
 use Rattle.std.specs.Prelude.{Err, ◌↔◌}
 use Rattle.std.specs.VecDeque.{deque_capacity}
 use Rattle.fp_model.specs.declared.calls.Deferred.{Deferred}
@@ -21,7 +21,7 @@ use Rattle.sync_point.specs.declared.committing.Draft.{Draft}
 use Rattle.sync_point.specs.Drafts.{IsEnd}
 use Rattle.sync_point.specs.Refusals.{refusal_room}
 use Rattle.fp_core.specs.declared.engine.Engine.{Engine}
-use Rattle.fp_core.specs.declared.engine.Region.TheVariants as regions
+use Rattle.fp_core.specs.declared.engine.Region.{Region}
 use Rattle.fp_core.specs.Numbering.{last_told}
 use Rattle.fp_core.specs.inside.Numbering.{with_used}
 use Rattle.fp_core.specs.Relation.{StandsFor, owed_of}
@@ -91,7 +91,6 @@ returns-in-Ok-clause-turned c m t h =
     in
     let line : length active.message.line ≡ length t.message.line = ap (λ message. length message.line) is.message in
     let most = room_within engine m region t u in
-    let same : c.from.result - 1 ≡ region - 1 = ap (λ n. n - 1) c.from.ensures in
     let slots : deque_capacity engine.owed ≤ deque_capacity owed =
     omega (arith, c.push_back_reserved.ensures.capacity) in
     let less : room + refusal_room t.message.line ≡ engine.room =
@@ -110,8 +109,8 @@ returns-in-Ok-clause-turned c m t h =
     let items : with_items engine.defs.now.msdbs m.history.now.msdbs entry.items ≡ store.msdbs =
     ap (λ (msdbs : List Msdb). with_items engine.defs.now.msdbs msdbs entry.items) w.stands.msdbs ∙ sym
     (e.msdbs engine.defs.now.msdbs handed.able) in
-    let after : ℕ → Engine = λ n. record engine {
-      regions = slice_set engine.regions n regions.Idle;
+    let after : List Region → Engine = λ rs. record engine {
+      regions = rs;
       locks = c.release_all.new.self;
       store = store;
       log = log;
@@ -128,10 +127,10 @@ returns-in-Ok-clause-turned c m t h =
       fit = e.fit engine.defs.now handed.able;
       made = items;
     } in
-    committed engine m region t reply store (after (c.from.result - 1)) entry.items h refl refl its
+    committed engine m region t reply store (after c.set_region.new.regions) entry.items h refl refl its
     (ends_done engine m region t reply store active draft entry (settlement engine.defs.now m.history.now t.point.own)
     c.in_ok-draft.ensures e.entry (e.end engine.defs.now m.history.now t.point.own handed))
-    (subst (λ n. StandsFor (after n) (ended_with region made next m)) (sym same)
+    (subst (λ rs. StandsFor (after rs) (ended_with region made next m)) (sym c.set_region.ensures)
     (ended_at engine m region t made next c.release_all.new.self store log owed room lasts u
     c.release_all.ensures.lists c.release_all.ensures.regions
     e.sealed unsealed owes slots less spare (e.of engine.defs.now.msdbs handed.able) refl refl used
@@ -241,7 +240,7 @@ pub returns-in-Ok-clause-gate : goal.returns-in-Ok-clause-gate
 returns-in-Ok-clause-gate c = c.commit.ensures.gate
 
 pub returns-in-Ok-clause-count : goal.returns-in-Ok-clause-count
-returns-in-Ok-clause-count c = length-set c.args.self.now.regions _ _
+returns-in-Ok-clause-count c = ap length c.set_region.ensures ∙ length-set c.args.self.now.regions _ _
 
 pub returns-in-Err-Verify-clause-rules : goal.returns-in-Err-Verify-clause-rules
 returns-in-Err-Verify-clause-rules c = c.fail.ensures.rules

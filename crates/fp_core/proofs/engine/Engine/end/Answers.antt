@@ -3,11 +3,12 @@ use Rattle.plain_laws.proofs.Results.{on_err}
 use Rattle.std.proofs.lemmas.Result.{IfOk-from_err}
 use Rattle.std.specs.declared.alloc.Global.{Global}
 use Rattle.std.specs.declared.collections.VecDeque.{VecDeque}
-use Rattle.std.proofs.Common.{◌≡◌, ◌∙◌, ap, arith, length, List, ℕ, Option, refl, slice_set, ◌-◌}
+use Rattle.std.proofs.Common.{◌≡◌, ◌∙◌, ap, arith, length, List, ℕ, Option, refl, ◌-◌}
 use Rattle.fp_model.specs.declared.calls.Message.{Message}
 use Rattle.fp_model.specs.Lasts.{Last}
 use Rattle.fp_core.specs.Numbering.{last_told}
 use Rattle.fp_core.specs.inside.Numbering.{with_used}
+use Rattle.fp_core.specs.declared.engine.Region.{Region}
 use Rattle.fp_core.specs.declared.engine.Region.TheVariants as regions
 use Rattle.fp_core.proofs.Ends.{region_is, room_within}
 use Rattle.fp_core.proofs.engine.Engine.end.Goals as goal
@@ -164,8 +165,8 @@ returns-clause-places c = c.keep.ensures.spare
 
 pub returns-clause-ok : goal.returns-clause-ok
 returns-clause-ok c =
-    ap (λ (n : ℕ). record c.args.self.now {
-      regions = slice_set c.args.self.now.regions (n - 1) regions.Idle;
+    ap (λ (rs : List Region). record c.args.self.now {
+      regions = rs;
       locks =
           c.release_all.new.self;
       log = c.append_owed.new.log;
@@ -173,7 +174,7 @@ returns-clause-ok c =
       room = c.args.self.now.room -
           c.refusal_room.result;
       lasts = c.keep.new.lasts;
-    }) c.from.ensures
+    }) c.set_region.ensures
 
 pub returns-clause-locks : goal.returns-clause-locks
 returns-clause-locks c = c.release_all.ensures.lists

@@ -1,4 +1,5 @@
-use Rattle.std.proofs.Common.{◌≡◌, refl, ◌∙◌, sym, ap, subst, arith, [], ◌∷◌, ◌++◌, ◌+◌, ◌≤◌, ℕ, ◌-◌, length, Option, Some, slice_get, slice_set}
+use Rattle.std.proofs.Common.{◌≡◌, refl, ◌∙◌, sym, ap, subst, arith, [], ◌∷◌, ◌++◌, ◌+◌, ◌≤◌, ℕ, ◌-◌, length, List, Option, Some, slice_get, slice_set}
+use Rattle.std.proofs.lemmas.List.{length-set, set-set}
 use Rattle.std.specs.Prelude.{IsOk, option_map}
 use Rattle.std.specs.VecDeque.{deque_capacity}
 use Rattle.fp_model.specs.LogText.{entry_text}
@@ -23,7 +24,7 @@ returns-clause-refused c m t u =
     let engine = c.args.self.now in
     let same : c.from.result - 1 ≡ c.args.region - 1 = ap (λ n. n - 1) c.from.ensures in
     let there : slice_get engine.regions (c.from.result - 1) ≡ Some (regions.Active c.in-Active.active) =
-    c.item_mut.ensures.value ∙ ap (λ r. Some r) (sym c.replace.ensures.value ∙ c.in-Active.is) in
+    c.item_mut.ensures.value ∙ ap (λ r. Some r) c.in-Active.is in
     let at : slice_get engine.regions (c.args.region - 1) ≡ Some (regions.Active c.in-Active.active) =
     subst (λ n. slice_get engine.regions n ≡ Some (regions.Active c.in-Active.active)) same there in
     let is = region_is engine m c.args.region t (regions.Active c.in-Active.active) u at in
@@ -57,26 +58,35 @@ returns-clause-refused c m t u =
     let slots : deque_capacity engine.owed ≤ deque_capacity owed = omega (arith, c.append_owed.ensures.slots) in
     let less : room + refusal_room t.message.line ≡ engine.room =
     omega (arith, most, seen_line, c.refusal_room.ensures.room) in
-    subst (λ (r : Region). StandsFor (record engine {
-      regions = slice_set engine.regions (c.from.result - 1) r;
+    let idle : c.set_region.new.regions ≡ slice_set engine.regions (c.args.region - 1) regions.Idle =
+    c.set_region.ensures
+    ∙ ap (λ n. slice_set (slice_set engine.regions n (regions.Active c.bare_parts.new.active)) (c.args.region - 1)
+    regions.Idle) same
+    ∙ set-set engine.regions (c.args.region - 1) (regions.Active c.bare_parts.new.active) regions.Idle in
+    subst (λ (rs : List Region). StandsFor (record engine {
+      regions = rs;
       locks = c.release_all.new.self;
       log = log;
       owed = owed;
       room = room;
       lasts = lasts;
-    }) (ended_with c.args.region e m.history.now m)) (sym c.replace.ensures.after)
-    (subst (λ n. StandsFor (record engine {
-      regions = slice_set engine.regions n regions.Idle;
-      locks = c.release_all.new.self;
-      log = log;
-      owed = owed;
-      room = room;
-      lasts = lasts;
-    }) (ended_with c.args.region e m.history.now m)) (sym same)
+    }) (ended_with c.args.region e m.history.now m)) (sym idle)
     (ended_at engine m c.args.region t e m.history.now c.release_all.new.self engine.store log owed room lasts u
     c.release_all.ensures.lists c.release_all.ensures.regions
     c.append_owed.ensures.sealed (unsealed ∙ ap (λ (x : Entry). engine.log.unsealed ++ x ∷ []) entry)
     (owes ∙ ap (λ (x : Entry). engine.owed.items ++ owed_of x ∷ []) entry)
     slots less spare u.stands.of u.stands.msdbs refl
     (uses_last engine m c.args.region t u e engine.lasts.terminals lasts.terminals refl refl used) c.keep.ensures.spare
-    (makes_nothing engine.defs.now m.history.now t.from outcome.Memory t.message.line [] [])))
+    (makes_nothing engine.defs.now m.history.now t.from outcome.Memory t.message.line [] []))
+
+pub set_region-requires-clause-within : goal.set_region-requires-clause-within
+set_region-requires-clause-within c =
+    let long : length (slice_set c.args.self.now.regions (c.from.result - 1) (regions.Active c.bare_parts.new.active))
+    ≡ length c.args.self.now.regions = length-set c.args.self.now.regions _ _ in
+    omega (arith, long, c.requires.within)
+
+pub returns-clause-count : goal.returns-clause-count
+returns-clause-count c =
+    ap length c.set_region.ensures
+    ∙ length-set (slice_set c.args.self.now.regions (c.from.result - 1) (regions.Active c.bare_parts.new.active)) _ _
+    ∙ length-set c.args.self.now.regions _ _

@@ -1,6 +1,11 @@
 use Rattle.std.proofs.lemmas.List.{length-set}
 use Rattle.std.proofs.lemmas.Result.{IfOk-from_err}
-use Rattle.std.proofs.Common.{◌≡◌, ◌∙◌, sym, arith, ℕ, suc, ◌-◌, None, refl}
+use Rattle.std.proofs.Common.{◌∙◌, ap, sym, arith, subst, length, ◌-◌, List, None, refl}
+use Rattle.fp_model.specs.declared.events.Event.TheVariants as event
+use Rattle.fp_core.specs.declared.did.Did.TheVariants as did
+use Rattle.fp_core.specs.declared.engine.Active.{Active}
+use Rattle.fp_core.specs.declared.engine.Region.{Region}
+use Rattle.fp_core.specs.Turning.{Turned}
 use Rattle.fp_core.proofs.Steps.{regions_long}
 use Rattle.fp_core.proofs.Takes.{first_takeable, group_some, group_within, nothing, roomier, takes}
 use Rattle.fp_core.proofs.engine.Engine.take_message.Goals as goal
@@ -47,41 +52,57 @@ returns-in-None-clause-turned c m s =
     nothing c.args.self.now m c.args.region c.group_of-group.result c.requires.some s c.group_of-group.ensures
     c.requires.idle (sym c.in-None.ensures)
 
-pub returns-in_err-make_room-clause-err : goal.returns-in_err-make_room-clause-err
-returns-in_err-make_room-clause-err c m s =
-    on_err c.from_residual-in_err-make_room.result
+pub returns-in_err-room-clause-err : goal.returns-in_err-room-clause-err
+returns-in_err-room-clause-err c m s =
+    on_err c.from_residual.result
+    (roomier c.args.self.now m c.make_room.new.log c.make_room.new.owed c.make_room.new.lasts s
+    c.make_room.ensures.log c.make_room.ensures.spare c.make_room.ensures.owed c.make_room.ensures.capacity
+    c.make_room.ensures.lasts c.make_room.ensures.numbers)
+
+pub returns-in_err-begun-clause-err : goal.returns-in_err-begun-clause-err
+returns-in_err-begun-clause-err c m s =
+    on_err c.from_residual-in_err-begun.result
     (roomier c.args.self.now m c.make_room.new.log c.make_room.new.owed c.make_room.new.lasts s
     c.make_room.ensures.log c.make_room.ensures.spare c.make_room.ensures.owed c.make_room.ensures.capacity
     c.make_room.ensures.lasts c.make_room.ensures.numbers)
 
 pub returns-clause-turned : goal.returns-clause-turned
 returns-clause-turned c m s =
-    let place : ℕ = c.from-place.result - 1 in
-    let e : suc place ≡ c.args.region = omega (arith, c.from-place.ensures, c.requires.some) in
-    let same : c.in-Some-take.message ≡ c.in-Some.message.now =
-    same_Some _ _ (c.in-Some-take.ensures.oldest ∙ sym c.in-Some.ensures) in
-    takes c.args.self.now m place c.group_of-group.result c.args.region e s
-    (rw c.from-place.ensures c.group_of-group.ensures) (rw c.from-place.ensures c.requires.idle)
-    c.in-Some.message.now
-    (record {
+    let active : Active = record {
       from = c.count-from.result;
       message = c.in-Some-take.message;
-      program = c.in_ok-begun-in-Some.begun.program;
-      work = c.in_ok-begun-in-Some.begun.work;
+      program = c.in_ok-begun.begun.program;
+      work = c.in_ok-begun.begun.work;
       tries = 0;
       ahead = None;
-      refusal = c.in_ok-begun-in-Some.begun.refusal;
-    })
-    c.take.new.self c.make_room.new.log c.make_room.new.owed c.in_ok-begun-in-Some.begun.room
-    c.make_room.new.lasts
+      refusal = c.in_ok-begun.begun.refusal;
+    } in
+    let engine = c.args.self.now in
+    subst (λ (rs : List Region). Turned (event.Region c.args.region) m (record engine {
+      queues = c.take.new.self;
+      regions = rs;
+      log = c.make_room.new.log;
+      owed = c.make_room.new.owed;
+      room = c.in_ok-room.room;
+      lasts = c.make_room.new.lasts;
+    }) did.Took) (sym c.set_region.ensures)
+    (takes engine m c.group_of-group.result c.args.region c.requires.some s c.group_of-group.ensures c.requires.idle
+    c.in-Some.message.now active
+    c.take.new.self c.make_room.new.log c.make_room.new.owed c.in_ok-room.room c.make_room.new.lasts
     (sym c.in-Some.ensures) c.take.ensures.rest c.take.ensures.busy c.make_room.ensures.log c.make_room.ensures.owed
-    (omega (arith, c.in_ok-make_room.ensures.slots, c.len.ensures)) c.in_ok-begun-in-Some.ensures.room
-    c.in_ok-make_room.ensures.room c.make_room.ensures.lasts
-    (omega (arith, c.in_ok-make_room.ensures.places, c.len.ensures))
-    c.count-from.ensures same (c.in_ok-begun-in-Some.ensures.is c.count-from.result)
+    (omega (arith, c.in_ok-room.ensures.slots, c.len.ensures)) c.in_ok-room.ensures.sum
+    c.in_ok-room.ensures.room c.make_room.ensures.lasts
+    (omega (arith, c.in_ok-room.ensures.places, c.len.ensures))
+    c.count-from.ensures (same_Some _ _ (c.in-Some-take.ensures.oldest ∙ sym c.in-Some.ensures))
+    (c.in_ok-begun.ensures c.count-from.result))
 
-pub make_room-requires : goal.make_room-requires
-make_room-requires c =
+pub make_room-requires-clause-short : goal.make_room-requires-clause-short
+make_room-requires-clause-short c =
+    (first_takeable c.args.self.now c.requires.stands.0 c.group_of-group.result c.in-Some.message.now
+    c.requires.stands.1 (sym c.in-Some.ensures)).short
+
+pub make_room-requires-clause-few : goal.make_room-requires-clause-few
+make_room-requires-clause-few c =
     omega (
       arith,
       c.len.ensures,
@@ -109,45 +130,42 @@ returns-in-None-clause-count c = refl
 pub returns-in-None-clause-err : goal.returns-in-None-clause-err
 returns-in-None-clause-err c m s = tt
 
-pub returns-in_err-begun-in-Some-clause-turned : goal.returns-in_err-begun-in-Some-clause-turned
-returns-in_err-begun-in-Some-clause-turned c m s = IfOk-from_err c.from_residual.result _ c.from_residual.ensures.0
+pub returns-in_err-room-clause-turned : goal.returns-in_err-room-clause-turned
+returns-in_err-room-clause-turned c m s = IfOk-from_err c.from_residual.result _ c.from_residual.ensures.0
 
-pub returns-in_err-begun-in-Some-clause-err : goal.returns-in_err-begun-in-Some-clause-err
-returns-in_err-begun-in-Some-clause-err c m s = on_err c.from_residual.result (s)
+pub returns-in_err-room-clause-rules : goal.returns-in_err-room-clause-rules
+returns-in_err-room-clause-rules c = refl
 
-pub returns-in_err-begun-in-Some-clause-rules : goal.returns-in_err-begun-in-Some-clause-rules
-returns-in_err-begun-in-Some-clause-rules c = refl
+pub returns-in_err-room-clause-defs : goal.returns-in_err-room-clause-defs
+returns-in_err-room-clause-defs c = refl
 
-pub returns-in_err-begun-in-Some-clause-defs : goal.returns-in_err-begun-in-Some-clause-defs
-returns-in_err-begun-in-Some-clause-defs c = refl
+pub returns-in_err-room-clause-scripts : goal.returns-in_err-room-clause-scripts
+returns-in_err-room-clause-scripts c = refl
 
-pub returns-in_err-begun-in-Some-clause-scripts : goal.returns-in_err-begun-in-Some-clause-scripts
-returns-in_err-begun-in-Some-clause-scripts c = refl
+pub returns-in_err-room-clause-gate : goal.returns-in_err-room-clause-gate
+returns-in_err-room-clause-gate c = c.make_room.ensures.gate
 
-pub returns-in_err-begun-in-Some-clause-gate : goal.returns-in_err-begun-in-Some-clause-gate
-returns-in_err-begun-in-Some-clause-gate c = refl
+pub returns-in_err-room-clause-count : goal.returns-in_err-room-clause-count
+returns-in_err-room-clause-count c = refl
 
-pub returns-in_err-begun-in-Some-clause-count : goal.returns-in_err-begun-in-Some-clause-count
-returns-in_err-begun-in-Some-clause-count c = refl
+pub returns-in_err-begun-clause-turned : goal.returns-in_err-begun-clause-turned
+returns-in_err-begun-clause-turned c m s =
+    IfOk-from_err c.from_residual-in_err-begun.result _ c.from_residual-in_err-begun.ensures.0
 
-pub returns-in_err-make_room-clause-turned : goal.returns-in_err-make_room-clause-turned
-returns-in_err-make_room-clause-turned c m s =
-    IfOk-from_err c.from_residual-in_err-make_room.result _ c.from_residual-in_err-make_room.ensures.0
+pub returns-in_err-begun-clause-rules : goal.returns-in_err-begun-clause-rules
+returns-in_err-begun-clause-rules c = refl
 
-pub returns-in_err-make_room-clause-rules : goal.returns-in_err-make_room-clause-rules
-returns-in_err-make_room-clause-rules c = refl
+pub returns-in_err-begun-clause-defs : goal.returns-in_err-begun-clause-defs
+returns-in_err-begun-clause-defs c = refl
 
-pub returns-in_err-make_room-clause-defs : goal.returns-in_err-make_room-clause-defs
-returns-in_err-make_room-clause-defs c = refl
+pub returns-in_err-begun-clause-scripts : goal.returns-in_err-begun-clause-scripts
+returns-in_err-begun-clause-scripts c = refl
 
-pub returns-in_err-make_room-clause-scripts : goal.returns-in_err-make_room-clause-scripts
-returns-in_err-make_room-clause-scripts c = refl
+pub returns-in_err-begun-clause-gate : goal.returns-in_err-begun-clause-gate
+returns-in_err-begun-clause-gate c = c.make_room.ensures.gate
 
-pub returns-in_err-make_room-clause-gate : goal.returns-in_err-make_room-clause-gate
-returns-in_err-make_room-clause-gate c = c.make_room.ensures.gate
-
-pub returns-in_err-make_room-clause-count : goal.returns-in_err-make_room-clause-count
-returns-in_err-make_room-clause-count c = refl
+pub returns-in_err-begun-clause-count : goal.returns-in_err-begun-clause-count
+returns-in_err-begun-clause-count c = refl
 
 pub returns-clause-err : goal.returns-clause-err
 returns-clause-err c m s = tt
@@ -165,4 +183,4 @@ pub returns-clause-gate : goal.returns-clause-gate
 returns-clause-gate c = c.make_room.ensures.gate
 
 pub returns-clause-count : goal.returns-clause-count
-returns-clause-count c = length-set c.args.self.now.regions _ _
+returns-clause-count c = ap length c.set_region.ensures ∙ length-set c.args.self.now.regions _ _
