@@ -101,7 +101,8 @@ fn idle_regions(alloc: Global, count: usize) -> Result<List<Region>, AllocError>
     Ok(regions)
 }
 
-/// Puts a value in the place of another, which is let go.
+/// Puts a value in the place of another, which is let go. By an assignment, the caller would be proved over every part of
+/// the old value.
 pub(crate) fn put<T: Drop>(place: &mut T, value: T)
     ensures { place.new ≡ value }
 {
