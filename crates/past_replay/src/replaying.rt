@@ -23,6 +23,13 @@ use past_segments::PastSegments;
 use std::alloc::{AllocError, Global};
 use txn_lang::Scripts;
 
+// What a run comes to, and the run is let go.
+fn ended<T: Drop>(alone: Alone, _run: T) -> Alone
+    ensures { result ≡ alone }
+{
+    alone
+}
+
 /// Runs the script of a message again, alone, as at a place of the log: its calls see the segments of the place and the
 /// anchors of the data entry databases, its unheld looks the segments of its notes, in order, and what it changes stands
 /// from the next place on. It fails only for want of memory; then the databases at the next place mean nothing.
@@ -83,7 +90,7 @@ pub fn replay(
             let parts = running.into_parts(alloc)?;
             commit(alloc, pasts, anchors, defs, place, parts, reply)
         }
-        End::Rolls(code) => Ok(roll(alloc, code)),
-        End::Stuck => Ok(Alone::Stuck),
+        End::Rolls(code) => Ok(ended(roll(alloc, code), running)),
+        End::Stuck => Ok(ended(Alone::Stuck, running)),
     }
 }

@@ -95,4 +95,4 @@ returns-in-Rolls-clause-alone g c now states are =
     ∙ ap (λ db. Ends (refused_as (Roll c.in-Rolls.code) db))
     (are.here ∙ ap (λ msdbs. record { msdbs = msdbs; dedbs = dedbs })
     (sym (shows_next place pasts c.requires.settled)))
-    ∙ ap (with_next next) (sym c.roll.ensures)
+    ∙ ap (with_next next) (sym (c.ended.ensures ∙ c.roll.ensures))
