@@ -251,6 +251,11 @@ def broken():
     for length in [2**63, 2**64 - 1, 2**32]:
         yield number(length, 8) + DEPOSIT[8:]
         yield DEPOSIT + number(length, 8)
+    # More notes or items by their count than there are.
+    head = number(0, 8) + number(0, 1) + part(b"T", 2) + part(b"R", 2)
+    for count in [2, 255, 2**16, 2**31, 2**32 - 1]:
+        yield part(head + number(count, 4) + number(3, 8), 8)
+        yield part(head + number(0, 4) + number(count, 4) + item_bytes(segment(0, b"A", b"Az")), 8)
 
 
 def misspelled(data):
