@@ -14,7 +14,8 @@ ghost use Rattle.fp_model.specs.CheckpointText.{IsCheckpoint, checkpoint_rest};
 ghost use Rattle.fp_model.specs.State.{ascend, key_of};
 ghost use Rattle.std.specs.List.{AllByRecursion};
 ghost use Rattle.log_format.specs.Reading.{Gives, many_at, part_at};
-ghost use Rattle.std.specs.Prelude.{◌≡◌, ◌+◌, ◌<◌, ◌≤◌, ◌^◌, ◌++◌, IfOk, length, map};
+ghost use Rattle.log_format.specs.declared.fault.ReadError.TheVariants.{Bad};
+ghost use Rattle.std.specs.Prelude.{◌≡◌, ◌+◌, ◌<◌, ◌≤◌, ◌^◌, ◌++◌, IfErr, IfOk, length, map};
 
 use crate::Loaded;
 use crate::terminals::lasts_of;
@@ -25,7 +26,8 @@ use std::alloc::Global;
 // The format that the letters say.
 #[tactic(auto, unfolding(crate::specs::Reading::letters_at))]
 fn letters_of(bytes: &[u8]) -> Result<(u8, &[u8]), ReadError>
-    ensures { Gives (λ x. (x.0, x.1.now)) result (letters_at bytes.now) }
+    ensures value { Gives (λ x. (x.0, x.1.now)) result (letters_at bytes.now) }
+    ensures bad { IfErr result (λ e. e ≡ Bad) }
 {
     if bytes.len() < 7 {
         return Err(ReadError::Bad);
@@ -42,7 +44,8 @@ fn letters_of(bytes: &[u8]) -> Result<(u8, &[u8]), ReadError>
 /// The format and the number of a checkpoint, by its bytes behind the gate.
 #[tactic(auto, unfolding(crate::specs::Reading::head_at))]
 pub fn head(bytes: &[u8]) -> Result<((u8, u64), &[u8]), ReadError>
-    ensures { Gives (λ x. (x.0, x.1.now)) result (head_at bytes.now) }
+    ensures value { Gives (λ x. (x.0, x.1.now)) result (head_at bytes.now) }
+    ensures bad { IfErr result (λ e. e ≡ Bad) }
 {
     let (format, rest) = letters_of(bytes)?;
     let (number, rest) = u64_of(rest)?;

@@ -1,11 +1,13 @@
 //! Readers of numbers, of texts behind their length, and of numbers behind their count.
 //!
 //! Each takes the front of the bytes and answers the value with what is left behind it. `Bad`: the bytes end
-//! too early. The clause of each says what reading gives in every case but want of memory.
+//! too early. The clause of each says what reading gives in every case but want of memory, and of those of numbers, which
+//! take none, that no other fault comes.
 ghost use Rattle.log_format.specs.Reading.{Gives, byte_at, number_at, part_at, short_at, long_at, part_text_at, many_at, counted_at};
+ghost use Rattle.log_format.specs.declared.fault.ReadError.TheVariants.{Bad};
 ghost use Rattle.fp_model.specs.Spellings.{be64};
 ghost use Rattle.std.specs.Int.{from_be_bytes, w16, w32, w64};
-ghost use Rattle.std.specs.Prelude.{◌≡◌, length};
+ghost use Rattle.std.specs.Prelude.{◌≡◌, IfErr, length};
 
 use crate::fault::ReadError;
 use fp_model::{Bytes, List};
@@ -13,7 +15,8 @@ use std::alloc::Global;
 
 /// One byte.
 pub fn byte_of(bytes: &[u8]) -> Result<(u8, &[u8]), ReadError>
-    ensures { Gives (λ x. (x.0, x.1.now)) result (byte_at bytes.now) }
+    ensures value { Gives (λ x. (x.0, x.1.now)) result (byte_at bytes.now) }
+    ensures bad { IfErr result (λ e. e ≡ Bad) }
 {
     match bytes {
         [] => Err(ReadError::Bad),
@@ -24,7 +27,8 @@ pub fn byte_of(bytes: &[u8]) -> Result<(u8, &[u8]), ReadError>
 /// A number of two bytes.
 #[tactic(auto, unfolding(crate::specs::Reading::number_at))]
 pub fn u16_of(bytes: &[u8]) -> Result<(u16, &[u8]), ReadError>
-    ensures { Gives (λ x. (x.0, x.1.now)) result (number_at w16 bytes.now) }
+    ensures value { Gives (λ x. (x.0, x.1.now)) result (number_at w16 bytes.now) }
+    ensures bad { IfErr result (λ e. e ≡ Bad) }
 {
     if bytes.len() < 2 {
         return Err(ReadError::Bad);
@@ -36,7 +40,8 @@ pub fn u16_of(bytes: &[u8]) -> Result<(u16, &[u8]), ReadError>
 /// A number of four bytes.
 #[tactic(auto, unfolding(crate::specs::Reading::number_at))]
 pub fn u32_of(bytes: &[u8]) -> Result<(u32, &[u8]), ReadError>
-    ensures { Gives (λ x. (x.0, x.1.now)) result (number_at w32 bytes.now) }
+    ensures value { Gives (λ x. (x.0, x.1.now)) result (number_at w32 bytes.now) }
+    ensures bad { IfErr result (λ e. e ≡ Bad) }
 {
     if bytes.len() < 4 {
         return Err(ReadError::Bad);
@@ -60,7 +65,8 @@ pub fn number_of(bytes: &[u8]) -> u64
 /// A number of eight bytes.
 #[tactic(auto, unfolding(crate::specs::Reading::number_at))]
 pub fn u64_of(bytes: &[u8]) -> Result<(u64, &[u8]), ReadError>
-    ensures { Gives (λ x. (x.0, x.1.now)) result (number_at w64 bytes.now) }
+    ensures value { Gives (λ x. (x.0, x.1.now)) result (number_at w64 bytes.now) }
+    ensures bad { IfErr result (λ e. e ≡ Bad) }
 {
     if bytes.len() < 8 {
         return Err(ReadError::Bad);

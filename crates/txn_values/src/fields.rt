@@ -7,7 +7,7 @@ ghost use Rattle.fp_model.specs.Values.{empty_field, empty_segment, fitted, fitt
 ghost use Rattle.fp_model.specs.Texts.{padded};
 ghost use Rattle.txn_values.specs.Fields.{field_filled};
 ghost use Rattle.txn_values.specs.Giving.{Gives, GivesAs};
-ghost use Rattle.txn_values.specs.declared.stop.Stop.TheVariants.{Memory};
+ghost use Rattle.txn_values.specs.declared.stop.Stop.TheVariants.{Memory, NoValue};
 ghost use Rattle.txn_values.specs.inside.Giving.{PutsIn};
 ghost use Rattle.txn_values.specs.Lending.{bytes_in};
 
@@ -33,6 +33,7 @@ pub fn layout_of(defs: &Defs, db: u8, type_number: u8) -> Result<Layout<'_>, Sto
     ensures ok { IfOk result (λ layout. layout_of defs.now db type_number
         ≡ Some (record { fields = layout.fields.now; has_key = layout.has_key })) }
     ensures err { IfErr result (λ e. e ≢ Memory → layout_of defs.now db type_number ≡ None) }
+    ensures no_value { IfErr result (λ e. e ≡ NoValue) }
 {
     let db = usize::from(db);
     if let Some(def) = defs.msdbs.get(db) {
@@ -56,6 +57,7 @@ pub fn layout_of(defs: &Defs, db: u8, type_number: u8) -> Result<Layout<'_>, Sto
 /// The first field of a name. `NoValue` where there is none. Takes no memory.
 pub fn field_of(fields: &[FieldDef], name: &Name) -> Result<FieldDef, Stop>
     ensures exact { Gives result (field_of fields.now name.now.0) }
+    ensures no_value { IfErr result (λ e. e ≡ NoValue) }
 {
     for field in fields {
         if field.name == *name {

@@ -1,10 +1,11 @@
 //! Texts as values: words, numbers, and what is made of two of them.
-ghost use Rattle.std.specs.Prelude.{◌≡◌, ◌+ℤ◌, ◌-ℤ◌, ◌*ℤ◌, ◌++◌, ◌∷◌, ◌<◌, ◌^◌, [], IfNone, IfOk, IfSome, length, slice_get, unsigned_abs, unwrap_or};
+ghost use Rattle.std.specs.Prelude.{◌≡◌, ◌+ℤ◌, ◌-ℤ◌, ◌*ℤ◌, ◌++◌, ◌∷◌, ◌<◌, ◌^◌, [], IfErr, IfNone, IfOk, IfSome, length, slice_get, unsigned_abs, unwrap_or};
 ghost use Rattle.std.specs.Ordering.{int_cmp};
 ghost use Rattle.fp_model.specs.Messages.{is_separator};
 ghost use Rattle.fp_model.specs.Values.{compares, number_text, of_numbers, operated, short_enough, word_of, words};
 ghost use Rattle.fp_model.specs.Texts.{decimal_text, digits_number, number_in, same_text, trimmed};
 ghost use Rattle.txn_values.specs.Giving.{Gives};
+ghost use Rattle.txn_values.specs.declared.stop.Stop.TheVariants.{NoValue};
 
 use crate::stop::Stop;
 use fp_model::{Bytes, Comparison, Operation};
@@ -159,6 +160,7 @@ fn product_text(alloc: Global, m: i128, n: i128) -> Result<Bytes, Stop>
 /// The number that a text is, if it is one.
 pub(crate) fn number(text: &[u8]) -> Result<i128, Stop>
     ensures exact { Gives result (number_in text.now) }
+    ensures no_value { IfErr result (λ e. e ≡ NoValue) }
     ensures small { IfOk result (λ n. unsigned_abs n < 10 ^ 31) }
 {
     match number_in(text) {
@@ -201,7 +203,8 @@ fn same_text(a: &[u8], b: &[u8]) -> bool
 
 // How two texts compare as numbers.
 fn order(a: &[u8], b: &[u8]) -> Result<Ordering, Stop>
-    ensures { Gives result (of_numbers (λ m n. Some (int_cmp m n)) a.now b.now) }
+    ensures exact { Gives result (of_numbers (λ m n. Some (int_cmp m n)) a.now b.now) }
+    ensures no_value { IfErr result (λ e. e ≡ NoValue) }
 {
     let m = number(a)?;
     let n = number(b)?;
@@ -212,6 +215,7 @@ fn order(a: &[u8], b: &[u8]) -> Result<Ordering, Stop>
 /// `NoValue` where a text that is to be a number is none. Takes no memory.
 pub fn compares(comparison: Comparison, a: &[u8], b: &[u8]) -> Result<bool, Stop>
     ensures exact { Gives result (compares comparison a.now b.now) }
+    ensures no_value { IfErr result (λ e. e ≡ NoValue) }
 {
     match comparison {
         Comparison::Equal => Ok(same_text(a, b)),

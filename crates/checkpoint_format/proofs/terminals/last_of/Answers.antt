@@ -8,7 +8,7 @@ returns-in-Some c =
     c.in_ok-number.rest.now c.in_ok-line.line c.in_ok-line.rest.now c.in-Some.lterm
     (part_is 8 c.args.bytes.now _ _ (omega (arith, c.if-bytes-lt8.false)) c.split_at.ensures.front
     c.split_at.ensures.back)
-    c.in_ok-number.ensures c.in_ok-line.ensures (sym c.stored_name-name.ensures ∙ c.in-Some.is)
+    c.in_ok-number.ensures.value c.in_ok-line.ensures (sym c.stored_name-name.ensures ∙ c.in-Some.is)
 
 pub returns-in-None : goal.returns-in-None
 returns-in-None c = λ other.
@@ -16,4 +16,4 @@ returns-in-None c = λ other.
     c.in_ok-number.rest.now c.in_ok-line.line c.in_ok-line.rest.now
     (part_is 8 c.args.bytes.now _ _ (omega (arith, c.if-bytes-lt8.false)) c.split_at.ensures.front
     c.split_at.ensures.back)
-    c.in_ok-number.ensures c.in_ok-line.ensures (sym c.stored_name-name.ensures ∙ c.in-None.is)
+    c.in_ok-number.ensures.value c.in_ok-line.ensures (sym c.stored_name-name.ensures ∙ c.in-None.is)

@@ -9,7 +9,7 @@ use Rattle.plain_laws.proofs.Lists.{map_twice}
 pub returns-then-not-ascends : goal.returns-then-not-ascends
 returns-then-not-ascends c = λ other.
     none_numbered c.args.bytes.now c.in_ok-count.count c.in_ok-count.rest.now
-    (map as_last c.in_ok-terminals.terminals.items) c.in_ok-terminals.rest.now c.in_ok-count.ensures
+    (map as_last c.in_ok-terminals.terminals.items) c.in_ok-terminals.rest.now c.in_ok-count.ensures.value
     c.in_ok-terminals.ensures
     (ap ascend (map_twice as_last (λ (l : Last). l.lterm.0) c.in_ok-terminals.terminals.items
     ∙ ap (map (λ t. t.lterm.0)) (sym c.as_slice.ensures.value)) ∙ sym c.ascends.ensures ∙ c.if-not-ascends.true)
