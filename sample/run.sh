@@ -18,14 +18,13 @@ trap 'exit 130' INT TERM
 
 # What was proved and built since the last change is only run.
 if [ ! -x out/ims_fp ] || [ -n "$(find ../*/src ../*/specs ../*/proofs ../../crates.txt -newer out/ims_fp)" ]; then
-    say "proving the program. The first time this takes long."
+    say "proving and building the program. The first time this takes long; what the gate proved on this machine is taken as it is."
     jobs=$(nproc 2>/dev/null || echo 1)
     ../../scripts/prove ims_fp $((jobs > 4 ? 4 : jobs))
-    say "building the program"
 fi
 cp data/defs.toml data/scripts.txt data/schedule.txt data/messages.txt "$room"
 say "making the databases"
-rt run -- define "$room"
+out/ims_fp define "$room"
 
 # Shows what a command prints, and keeps it, whatever the command's status.
 printed() {
