@@ -4,7 +4,7 @@
 # Then it runs the examples of the guide. It fails where they print, or it printed itself, anything else than stands in
 # the guide and in README.md.
 # The first time it proves the program and builds it. sample/try.sh runs the same
-# messages in about a minute, with no proof.
+# messages in a minute or two, with no proof.
 set -e
 say() { echo "sample: $*" >&2; }
 if ! command -v rt >/dev/null; then
