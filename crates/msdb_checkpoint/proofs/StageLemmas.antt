@@ -7,7 +7,7 @@ use Rattle.fp_site.specs.Disk.{Disk, Settles}
 use Rattle.gated_write.specs.Gates.{IsClosed, IsOpened, IsShut, IsStaged, IsUnopened, IsWriting}
 use Rattle.gated_write.proofs.Bodies.{begins}
 use Rattle.fp_site.specs.Moments.{Through}
-use Rattle.msdb_checkpoint.specs.Steps.{IsAt, IsOldClosedOrWhole, IsSure, IsUnderWay, StandsOn, Turn, other_set}
+use Rattle.msdb_checkpoint.specs.Steps.{GoesFrom, GoesOn, IsAt, IsOldClosedOrWhole, IsSure, IsUnderWay, MayGo, StandsOn, Turn, other_set}
 use Rattle.msdb_checkpoint.specs.declared.stages.UnderWay.{UnderWay}
 use Rattle.msdb_checkpoint.specs.declared.stages.Stage.{Stage}
 use Rattle.msdb_checkpoint.specs.declared.stages.Stage.TheVariants.{Begun, Written, Synced}
@@ -80,6 +80,13 @@ pub stands_at : (set number : ℕ) (o : Option UnderWay) (turn : Turn) (disk : D
 stands_at set number o turn disk w view is stands = subst (λ p. IsUnderWay (other_set set) disk p) is
     (subst (λ t. StandsOn t disk) (sym view) stands)
 
+-- or may be taken on from there
+pub goes_at : (set number : ℕ) (o : Option UnderWay) (turn : Turn) (disk : Disk) (w : UnderWay)
+    → record { set = set; number = number; under_way = o } ≡ turn → o ≡ Some w → GoesOn turn disk
+    → GoesFrom w.body (other_set set) disk w.stage
+goes_at set number o turn disk w view is goes = subst (λ p. MayGo (other_set set) disk p) is
+    (subst (λ t. GoesOn t disk) (sym view) goes)
+
 -- and is the same by the view and by the fields
 pub same_body : (set number : ℕ) (o : Option UnderWay) (turn : Turn) (u w : UnderWay)
     → record { set = set; number = number; under_way = o } ≡ turn → o ≡ Some w → turn.under_way ≡ Some u
@@ -104,6 +111,17 @@ moved_image d set turned body given image of_set of_body is =
 pub at_slice : (w : UnderWay) (body : List ℕ) (set : ℕ) (disk : Disk) → body ≡ w.body → IsAt w.body set disk w.stage
     → IsAt body set disk w.stage
 at_slice w body set disk is at = subst (λ b. IsAt b set disk w.stage) (sym is) at
+
+pub goes_slice : (w : UnderWay) (body : List ℕ) (set : ℕ) (disk : Disk) → body ≡ w.body
+    → GoesFrom w.body set disk w.stage → GoesFrom body set disk w.stage
+goes_slice w body set disk is goes = subst (λ b. GoesFrom b set disk w.stage) (sym is) goes
+
+-- where it stands at a stage the next step may be taken
+pub may_go : (body : List ℕ) (set : ℕ) (disk : Disk) (stage : Stage) → IsAt body set disk stage
+    → GoesFrom body set disk stage
+may_go body set disk Begun at = tt
+may_go body set disk (Written count) at = at
+may_go body set disk Synced at = at
 
 -- at each stage the data set has a byte
 behind_some : (old body rest c : List ℕ) → 0 < length old → c ≡ take 1 old ++ (body ++ rest) → 0 < length c

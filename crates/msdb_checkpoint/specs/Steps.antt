@@ -25,6 +25,12 @@ IsAt body set disk (Written count) =
     (old : List ℕ) × IsClosed 0 old × (count ≤ length body) × IsWriting old 0 (take count body) set disk
 IsAt body set disk Synced = (old : List ℕ) × IsClosed 0 old × IsReady old 0 body set disk
 
+-- The next step may be taken at a stage: the first over whatever the data set has, each other where it stands at its stage.
+abbrev pub GoesFrom : List ℕ → ℕ → Disk → Stage → Type 0
+GoesFrom body set disk Begun = ⊤
+GoesFrom body set disk (Written count) = IsAt body set disk (Written count)
+GoesFrom body set disk Synced = IsAt body set disk Synced
+
 -- Behind so many bytes of the body a step writes the next 65,536, or those that are left, and nothing else.
 abbrev pub WritesPiece : List ℕ → ℕ → ℕ → Disk → Disk → Type 0
 WritesPiece body count set old new =
@@ -61,6 +67,14 @@ IsUnderWay set disk (Some u) = IsAt u.body set disk u.stage
 
 abbrev pub StandsOn : Turn → Disk → Type 0
 StandsOn turn disk = IsUnderWay (other_set turn.set) disk turn.under_way
+
+-- the next step of what is under way may be taken there
+abbrev pub MayGo : ℕ → Disk → Option UnderWay → Type 0
+MayGo set disk None = ⊤
+MayGo set disk (Some u) = GoesFrom u.body set disk u.stage
+
+abbrev pub GoesOn : Turn → Disk → Type 0
+GoesOn turn disk = MayGo (other_set turn.set) disk turn.under_way
 
 -- the same checkpoint is under way, at some stage
 abbrev pub OnlyStage : UnderWay → Option UnderWay → Type 0

@@ -8,7 +8,7 @@ ghost use Rattle.fp_lists.specs.Continued.{IsContinued};
 ghost use Rattle.fp_lists.specs.Faults.{Counts};
 ghost use Rattle.gated_write.specs.Gates.{ReadsOnly};
 ghost use Rattle.msdb_checkpoint.specs.Given.{body_with};
-ghost use Rattle.msdb_checkpoint.specs.Steps.{IsOldClosedOrWhole, IsSure, IsSureNow, OnlyStage, StandsOn, Turn, WritesPiece, other_set, turns_left};
+ghost use Rattle.msdb_checkpoint.specs.Steps.{GoesOn, IsOldClosedOrWhole, IsSure, IsSureNow, OnlyStage, StandsOn, Turn, WritesPiece, other_set, turns_left};
 ghost use Rattle.msdb_checkpoint.specs.declared.fault.CkptFault.TheVariants as faults;
 ghost use Rattle.msdb_checkpoint.specs.declared.stages.Stage.TheVariants as stages;
 ghost use Rattle.msdb_checkpoint.specs.declared.stages.UnderWay.{UnderWay as UnderWayOf};
@@ -136,9 +136,9 @@ impl Checkpoints {
     /// Does the next step of what is under way, and answers whether that is the newest sure checkpoint now. Where none
     /// is under way it does nothing. After a fault none is. It takes no memory, and gives only `Failed`.
     pub fn step<S: Site>(&mut self, site: &mut S) -> Result<bool, CkptFault>
-        ensures goes { S.told site.old → StandsOn self.old (S.disk site.old)
+        ensures goes { S.told site.old → GoesOn self.old (S.disk site.old)
             → IfOk result (λ sure. sure ≡ false → StandsOn self.new (S.disk site.new)) }
-        ensures sure { S.told site.old → StandsOn self.old (S.disk site.old)
+        ensures sure { S.told site.old → GoesOn self.old (S.disk site.old)
             → IfOk result (λ sure. sure ≡ true → IsSureNow self.old self.new (S.disk site.new)) }
         ensures set { IfOk result (λ sure. sure ≡ false → (self.new.set ≡ self.old.set)
             × (self.new.number ≡ self.old.number)) }
@@ -204,7 +204,7 @@ impl Checkpoints {
     /// Does all steps that are left of what is under way, which is the newest sure checkpoint then. Where none is under
     /// way it does nothing. After a fault none is. It takes no memory, and gives only `Failed`.
     pub fn finish<S: Site>(&mut self, site: &mut S) -> Result<(), CkptFault>
-        ensures sure { (u : UnderWayOf) → S.told site.old → StandsOn self.old (S.disk site.old)
+        ensures sure { (u : UnderWayOf) → S.told site.old → GoesOn self.old (S.disk site.old)
             → self.old.under_way ≡ Some u → OnOk result (IsSureNow self.old self.new (S.disk site.new)) }
         ensures turn { (u : UnderWayOf) → self.old.under_way ≡ Some u → OnOk result (self.new
             ≡ record { set = other_set self.old.set; number = u.number; under_way = None }) }
@@ -264,9 +264,8 @@ impl Checkpoints {
         requires terminals { AreLasts (terminals_of (option_copied lasts)) }
 
         // At Ok it is the newest sure one.
-        ensures sure { S.told site.old → 0 < length ((S.disk site.old).contents (other_set self.old.set)) →
-            OnOk result (IsSure (body_with defs.now.msdbs (self.old.number + 1) at count msdbs.now.msdbs
-            (option_copied lasts.entry)) (other_set self.old.set) (S.disk site.new)) }
+        ensures sure { S.told site.old → OnOk result (IsSure (body_with defs.now.msdbs (self.old.number + 1) at count
+            msdbs.now.msdbs (option_copied lasts.entry)) (other_set self.old.set) (S.disk site.new)) }
         ensures turn { OnOk result (self.new
             ≡ record { set = other_set self.old.set; number = self.old.number + 1; under_way = None }) }
 

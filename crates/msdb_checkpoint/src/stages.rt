@@ -4,7 +4,7 @@ ghost use Rattle.fp_site.specs.Moments.{OnlyOn, Through};
 ghost use Rattle.fp_lists.specs.Continued.{IsContinued};
 ghost use Rattle.fp_lists.specs.Faults.{Counts};
 ghost use Rattle.gated_write.specs.Gates.{ReadsOnly};
-ghost use Rattle.msdb_checkpoint.specs.Steps.{IsAt, IsOldClosedOrWhole, IsSure, WritesPiece, steps_left};
+ghost use Rattle.msdb_checkpoint.specs.Steps.{GoesFrom, IsAt, IsOldClosedOrWhole, IsSure, WritesPiece, steps_left};
 ghost use Rattle.msdb_checkpoint.specs.inside.Steps.{IsNext, left_behind};
 ghost use Rattle.msdb_checkpoint.specs.declared.stages.Stage.TheVariants.{Begun, Synced, Written};
 ghost use Rattle.std.specs.Prelude.{◌≡◌, ◌+◌, ◌<◌, ◌≤◌, ◌^◌, ℕ, IfOk, List as ListOf, OnOk, Some, length};
@@ -140,7 +140,7 @@ pub(crate) fn advance<S: Site>(
     stage: Stage,
 ) -> Result<Option<Stage>, Failed>
     requires room { length body.now + 1 ≤ 2 ^ 62 }
-    ensures next { S.told site.old → IsAt body.now set (S.disk site.old) stage
+    ensures next { S.told site.old → GoesFrom body.now set (S.disk site.old) stage
         → IfOk result (IsNext body.now set (S.disk site.new)) }
     ensures piece { (count : ℕ) → S.told site.old → stage ≡ Written count → count < length body.now
         → OnOk result (WritesPiece body.now count set (S.disk site.old) (S.disk site.new)) }
@@ -174,7 +174,7 @@ pub(crate) fn advance<S: Site>(
 // Does all that is left from a stage on.
 pub(crate) fn run<S: Site>(site: &mut S, set: u16, body: &[u8], stage: Stage) -> Result<(), Failed>
     requires room { length body.now + 1 ≤ 2 ^ 62 }
-    ensures sure { S.told site.old → IsAt body.now set (S.disk site.old) stage
+    ensures sure { S.told site.old → GoesFrom body.now set (S.disk site.old) stage
         → OnOk result (IsSure body.now set (S.disk site.new)) }
     ensures cause { Counts (S.faults site.old) (S.faults site.new) result }
     ensures only { S.told site.old → OnlyOn set (S.disk site.old) (S.disk site.new) }

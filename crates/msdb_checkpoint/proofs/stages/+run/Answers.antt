@@ -3,7 +3,7 @@ use Rattle.fp_site.proofs.Frames.{only_joined}
 use Rattle.fp_site.proofs.Runs.{joined, weaker}
 use Rattle.msdb_checkpoint.specs.Steps.{IsAt}
 use Rattle.msdb_checkpoint.specs.inside.Steps.{IsNext}
-use Rattle.msdb_checkpoint.proofs.StageLemmas.{and_then}
+use Rattle.msdb_checkpoint.proofs.StageLemmas.{and_then, may_go}
 use Rattle.msdb_checkpoint.proofs.stages.+run.Goals as goal
 
 pub returns-in-Some-clause-only : goal.returns-in-Some-clause-only
@@ -15,7 +15,7 @@ returns-in-Some-clause-only g n c t =
 pub returns-in-Some-clause-crash : goal.returns-in-Some-clause-crash
 returns-in-Some-clause-crash g n c t at =
     let t1 = c.advance.ensures.site.still_told t in
-    let next = c.in_ok-next.ensures.next t at in
+    let next = c.in_ok-next.ensures.next t (may_go _ _ _ _ at) in
     let at1 : IsAt c.args.body.now c.args.set (g.S.Site.disk c.advance.new.site) c.in-Some.next =
     subst (IsNext c.args.body.now c.args.set (g.S.Site.disk c.advance.new.site)) c.in-Some.is next in
     joined _ _ _ _ (c.advance.ensures.crash t at)
@@ -25,8 +25,16 @@ returns-in-Some-clause-crash g n c t at =
 pub returns-in-Some-clause-settles : goal.returns-in-Some-clause-settles
 returns-in-Some-clause-settles g n c image t at settles =
     let t1 = c.advance.ensures.site.still_told t in
-    let next = c.in_ok-next.ensures.next t at in
+    let next = c.in_ok-next.ensures.next t (may_go _ _ _ _ at) in
     let at1 : IsAt c.args.body.now c.args.set (g.S.Site.disk c.advance.new.site) c.in-Some.next =
     subst (IsNext c.args.body.now c.args.set (g.S.Site.disk c.advance.new.site)) c.in-Some.is next in
     and_then _ (g.S.Site.disk c.advance.new.site) c.args.set c.args.body.now image
     (λ i s. c.advance.ensures.settles i t at s) (c.run.ensures.settles image t1 at1 settles)
+
+pub returns-in-Some-clause-sure : goal.returns-in-Some-clause-sure
+returns-in-Some-clause-sure g n c t goes =
+    let t1 = c.advance.ensures.site.still_told t in
+    let next = c.in_ok-next.ensures.next t goes in
+    let at1 : IsAt c.args.body.now c.args.set (g.S.Site.disk c.advance.new.site) c.in-Some.next =
+    subst (IsNext c.args.body.now c.args.set (g.S.Site.disk c.advance.new.site)) c.in-Some.is next in
+    c.run.ensures.sure t1 (may_go c.args.body.now c.args.set (g.S.Site.disk c.advance.new.site) c.in-Some.next at1)

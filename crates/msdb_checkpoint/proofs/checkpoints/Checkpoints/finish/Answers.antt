@@ -2,7 +2,7 @@ use Rattle.std.proofs.Common.{◌≡◌, ◌∙◌, Option, None, ℕ, ap, sym, 
 use Rattle.fp_site.specs.Disk.{Settles}
 use Rattle.msdb_checkpoint.specs.Steps.{IsSure, Turn, other_set}
 use Rattle.msdb_checkpoint.specs.declared.stages.UnderWay.{UnderWay}
-use Rattle.msdb_checkpoint.proofs.StageLemmas.{at_slice, moved, moved_image, same_body, stands_at}
+use Rattle.msdb_checkpoint.proofs.StageLemmas.{at_slice, goes_at, goes_slice, moved, moved_image, same_body, stands_at}
 use Rattle.msdb_checkpoint.proofs.checkpoints.Checkpoints.finish.Goals as goal
 use Rattle.std.proofs.lemmas.Option.{same_Some}
 
@@ -71,12 +71,12 @@ returns-clause-turn g c u was =
     (same_Some c.in-Some.under_way u (sym is ∙ ap (λ (t : Turn). t.under_way) view ∙ was))
 
 pub returns-clause-sure : goal.returns-clause-sure
-returns-clause-sure g c u t stands was =
+returns-clause-sure g c u t goes was =
     let view = c.self.view_is in
     let is = sym c.take.ensures.value ∙ c.in-Some.is in
-    let at = stands_at _ _ _ _ (g.S.Site.disk c.args.site.now) c.in-Some.under_way view is stands in
+    let at = goes_at _ _ _ _ (g.S.Site.disk c.args.site.now) c.in-Some.under_way view is goes in
     let of_set = ap (λ (t : Turn). t.set) view in
-    let at1 = at_slice c.in-Some.under_way _ (other_set c.self.inside.set) (g.S.Site.disk c.args.site.now)
+    let at1 = goes_slice c.in-Some.under_way _ (other_set c.self.inside.set) (g.S.Site.disk c.args.site.now)
     c.as_slice.ensures at in
     let sure = c.in_ok-run.ensures.sure t at1 in
     record {
