@@ -14,7 +14,7 @@ returns-in-Ok-clause-some g c t =
       format = c.in-Ok.field-0-0-0;
       rest = c.in-Ok.field-0-1.now;
       head = ap head_at (sym (behind_gate bytes) ∙ ap (λ (l : List ℕ). take 16 (drop 1 l)) (sym front))
-          ∙ c.in-Ok.ensures;
+          ∙ c.in-Ok.ensures.value;
     }
 
 pub returns-in-Err-Bad-clause-damaged : goal.returns-in-Err-Bad-clause-damaged
@@ -22,7 +22,7 @@ returns-in-Err-Bad-clause-damaged g c place t is =
     let bytes = (g.S.Site.disk c.args.site.now).contents c.args.set in
     let front = c.in_ok-bytes.ensures.bytes t in
     let bad : head_at (take 16 (drop 1 c.in_ok-bytes.bytes)) ≡ None =
-    (rw c.in-Err-Bad.field-0-is at c.in-Err-Bad.ensures) bad_is_other in (
+    (rw c.in-Err-Bad.field-0-is at c.in-Err-Bad.ensures.value) bad_is_other in (
       cc,
       record {
         gate = sym (gate_is bytes) ∙ ap (λ l. get_or l 0 0) (sym front) ∙ c.if-bytes-ne1.false;
