@@ -197,7 +197,7 @@ def broken_tries():
     for half in ["001a0c", "000019", "0000ff"]:
         broken = SEGMENT[:4] + bytes.fromhex("00" + half) + SEGMENT[8:]
         for op in "EGHLMN+-=":
-            for operand in [b"1", b"x"]:
+            for operand in [b"1", b"x", b"100"]:
                 yield try_line(broken, [("BAL", op, operand)])
 
 

@@ -10,171 +10,177 @@ use fp_model::{Kind, Name};
 use std::alloc::{AllocError, Global};
 use std::cell::Cell;
 use std::rc::Rc;
-use std::test::Fail;
 
-/// Keys, the number of places, the place by folding and the place by range.
-static KEYS: [(&[u8], u64, u64, u64); 12] = [
-    (b"C001", 8, 6, 2),
-    (b"C003", 8, 0, 2),
-    (b"C009", 8, 6, 2),
-    (b"C001", 1, 0, 0),
-    (b"A", 65536, 65, 16640),
-    (b"A001", 65536, 18000, 16688),
-    (b"ABCDEFGH", 256, 132, 65),
-    (b"\x00", 2, 0, 0),
-    (b"\x7f\x7f\x7f\x7f\x7f", 2, 1, 0),
-    (b"\xff", 65536, 255, 65280),
-    (&[255; 64], 65536, 31744, 65535),
-    (b"\x80", 2, 0, 1),
+const FOLD: Kind = Kind::Fold;
+
+const RANGE: Kind = Kind::Range;
+
+/// Range first: an exit is found by its kind, and not by its place.
+const KINDS: &[Kind] = &[RANGE, FOLD];
+
+/// A kind, a key, the number of places, and its place.
+static KEYS: [(Kind, &[u8], u64, u64); 24] = [
+    (FOLD, b"C001", 8, 6),
+    (FOLD, b"C003", 8, 0),
+    (FOLD, b"C009", 8, 6),
+    (FOLD, b"C001", 1, 0),
+    (FOLD, b"A", 65536, 65),
+    (FOLD, b"A001", 65536, 18000),
+    (FOLD, b"ABCDEFGH", 256, 132),
+    (FOLD, b"\x00", 2, 0),
+    (FOLD, b"\x7f\x7f\x7f\x7f\x7f", 2, 1),
+    (FOLD, b"\xff", 65536, 255),
+    (FOLD, &[255; 64], 65536, 31744),
+    (FOLD, b"\x80", 2, 0),
+    (RANGE, b"C001", 8, 2),
+    (RANGE, b"C003", 8, 2),
+    (RANGE, b"C009", 8, 2),
+    (RANGE, b"C001", 1, 0),
+    (RANGE, b"A", 65536, 16640),
+    (RANGE, b"A001", 65536, 16688),
+    (RANGE, b"ABCDEFGH", 256, 65),
+    (RANGE, b"\x00", 2, 0),
+    (RANGE, b"\x7f\x7f\x7f\x7f\x7f", 2, 0),
+    (RANGE, b"\xff", 65536, 65280),
+    (RANGE, &[255; 64], 65536, 65535),
+    (RANGE, b"\x80", 2, 1),
 ];
 
-/// Transactions, the number of groups, the group by folding and the group by range.
-static TRANSACTIONS: [([u8; 8], u64, u64, u64); 8] = [
-    (*b"DEPOSIT ", 2, 0, 0),
-    (*b"WDRAW   ", 2, 1, 0),
-    (*b"ASK     ", 2, 1, 0),
-    (*b"ASK     ", 1, 0, 0),
-    (*b"WDRAW   ", 16, 11, 5),
-    (*b"        ", 16, 0, 0),
-    (*b" A S K  ", 2, 1, 0),
-    (*b"A       ", 16, 1, 4),
+/// A kind, a transaction, the number of groups, and its group.
+static TRANSACTIONS: [(Kind, Name, u64, u64); 16] = [
+    (FOLD, Name(*b"DEPOSIT "), 2, 0),
+    (FOLD, Name(*b"WDRAW   "), 2, 1),
+    (FOLD, Name(*b"ASK     "), 2, 1),
+    (FOLD, Name(*b"ASK     "), 1, 0),
+    (FOLD, Name(*b"WDRAW   "), 16, 11),
+    (FOLD, Name(*b"        "), 16, 0),
+    (FOLD, Name(*b" A S K  "), 2, 1),
+    (FOLD, Name(*b"A       "), 16, 1),
+    (RANGE, Name(*b"DEPOSIT "), 2, 0),
+    (RANGE, Name(*b"WDRAW   "), 2, 0),
+    (RANGE, Name(*b"ASK     "), 2, 0),
+    (RANGE, Name(*b"ASK     "), 1, 0),
+    (RANGE, Name(*b"WDRAW   "), 16, 5),
+    (RANGE, Name(*b"        "), 16, 0),
+    (RANGE, Name(*b" A S K  "), 2, 0),
+    (RANGE, Name(*b"A       "), 16, 4),
 ];
 
-/// A spreader that folds, and counts its calls.
-fn counting_spreader(alloc: Global, calls: Rc<Cell<u64>>) -> Result<Spreader, AllocError> {
+/// A spreader of a kind, which counts its calls.
+fn spreader(alloc: Global, kind: Kind, calls: Rc<Cell<u64>>) -> Result<Spreader, AllocError> {
     let f: Spreading = Box::new(
         alloc,
         move |key: &[u8], n: u64| -> u64
             requires { IsSpreadable key.now n }
-            ensures { result ≡ spread Kind.Fold n key.now }
+            ensures { result ≡ spread kind n key.now }
         {
             calls.set(calls.get().wrapping_add(1));
-            fold_place(key, n)
+            match kind {
+                Kind::Fold => fold_place(key, n),
+                Kind::Range => range_place(key, n),
+            }
         },
     )?;
-    Ok(Spreader::new(Kind::Fold, f))
+    Ok(Spreader::new(kind, f))
 }
 
-/// One by range.
-fn range_spreader(alloc: Global) -> Result<Spreader, AllocError> {
-    let f: Spreading = Box::new(
-        alloc,
-        |key: &[u8], n: u64| -> u64
-            requires { IsSpreadable key.now n }
-            ensures { result ≡ spread Kind.Range n key.now }
-        { range_place(key, n) },
-    )?;
-    Ok(Spreader::new(Kind::Range, f))
-}
-
-/// Both, and no router.
-fn spreaders(alloc: Global, calls: Rc<Cell<u64>>) -> Result<Exits, AllocError> {
-    let mut spreaders = Vec::new(alloc);
-    spreaders.push(range_spreader(alloc)?)?;
-    spreaders.push(counting_spreader(alloc, calls)?)?;
-    Ok(Exits::new(spreaders, Vec::new(alloc)))
-}
-
-/// A router that folds, and counts its calls.
-fn counting_router(alloc: Global, calls: Rc<Cell<u64>>) -> Result<Router, AllocError> {
+/// A router of a kind, which counts its calls.
+fn router(alloc: Global, kind: Kind, calls: Rc<Cell<u64>>) -> Result<Router, AllocError> {
     let f: Routing = Box::new(
         alloc,
         move |tran: &Name, n: u64| -> u64
             requires { IsRoutable tran.now n }
-            ensures { result ≡ route Kind.Fold n tran.now }
+            ensures { result ≡ route kind n tran.now }
         {
             calls.set(calls.get().wrapping_add(1));
-            fold_group(tran, n)
+            match kind {
+                Kind::Fold => fold_group(tran, n),
+                Kind::Range => range_group(tran, n),
+            }
         },
     )?;
-    Ok(Router::new(Kind::Fold, f))
+    Ok(Router::new(kind, f))
 }
 
-/// One by range.
-fn range_router(alloc: Global) -> Result<Router, AllocError> {
-    let f: Routing = Box::new(
-        alloc,
-        |tran: &Name, n: u64| -> u64
-            requires { IsRoutable tran.now n }
-            ensures { result ≡ route Kind.Range n tran.now }
-        { range_group(tran, n) },
-    )?;
-    Ok(Router::new(Kind::Range, f))
+/// A spreader of each kind.
+fn spreaders(alloc: Global, calls: &Rc<Cell<u64>>) -> Result<Vec<Spreader>, AllocError> {
+    let mut spreaders = Vec::new(alloc);
+    for kind in KINDS {
+        spreaders.push(spreader(alloc, *kind, calls.clone()?)?)?;
+    }
+    Ok(spreaders)
 }
 
-/// Both, and no spreader.
-fn routers(alloc: Global, calls: Rc<Cell<u64>>) -> Result<Exits, AllocError> {
+/// A router of each kind.
+fn routers(alloc: Global, calls: &Rc<Cell<u64>>) -> Result<Vec<Router>, AllocError> {
     let mut routers = Vec::new(alloc);
-    routers.push(range_router(alloc)?)?;
-    routers.push(counting_router(alloc, calls)?)?;
-    Ok(Exits::new(Vec::new(alloc), routers))
+    for kind in KINDS {
+        routers.push(router(alloc, *kind, calls.clone()?)?)?;
+    }
+    Ok(routers)
 }
 
-/// The place that the spreader of a kind gives a key; None where there is none, or it may not be asked.
-fn place_of(exits: &Exits, kind: Kind, key: &[u8], n: u64) -> Option<u64> {
+/// Whether the spreader of a kind gives a key this place.
+fn has_place(exits: &Exits, kind: Kind, key: &[u8], n: u64, place: u64) -> bool {
     if key.is_empty() || key.len() > 64 || n < 1 || n > 65536 {
-        return None;
+        return false;
     }
     match exits.spreader(kind) {
-        Some(spreader) => Some(spreader.place(key, n)),
-        None => None,
+        Some(spreader) => spreader.place(key, n) == place,
+        None => false,
     }
 }
 
-/// The group that the router of a kind gives a transaction; None where there is none, or it may not be asked.
-fn group_of(exits: &Exits, kind: Kind, tran: [u8; 8], n: u64) -> Option<u64> {
+/// Whether the router of a kind gives a transaction this group.
+fn has_group(exits: &Exits, kind: Kind, tran: &Name, n: u64, group: u64) -> bool {
     if n < 1 || n > 16 {
-        return None;
+        return false;
     }
     match exits.router(kind) {
-        Some(router) => Some(router.group(&Name(tran), n)),
-        None => None,
+        Some(router) => router.group(tran, n) == group,
+        None => false,
     }
 }
 
 /// The first key that has another place than it is to have.
 fn first_other_key(exits: &Exits) -> Option<usize> {
-    for (place, (key, n, folded, ranged)) in KEYS.iter().enumerate() {
-        let found = place_of(exits, Kind::Fold, key, *n);
-        let other = place_of(exits, Kind::Range, key, *n);
-        if found != Some(*folded) || other != Some(*ranged) {
-            return Some(place);
+    for (at, (kind, key, n, place)) in KEYS.iter().enumerate() {
+        if !has_place(exits, *kind, key, *n, *place) {
+            return Some(at);
         }
     }
     None
-}
-
-#[test]
-fn keys_have_the_places_of_the_kinds(rt: HostRuntime) -> Result<(), Fail> {
-    let calls = Rc::new(rt.alloc(), Cell::new(0u64))?;
-    let exits = spreaders(rt.alloc(), calls.clone()?)?;
-    let wrong = first_other_key(&exits);
-    assert!(rt; wrong.is_none(), "key {wrong:?}");
-    // The stored function is called for each key.
-    assert!(rt; calls.get() == 12);
-    Ok(())
 }
 
 /// The first transaction that has another group than it is to have.
 fn first_other_transaction(exits: &Exits) -> Option<usize> {
-    for (place, (tran, n, folded, ranged)) in TRANSACTIONS.iter().enumerate() {
-        let found = group_of(exits, Kind::Fold, *tran, *n);
-        let other = group_of(exits, Kind::Range, *tran, *n);
-        if found != Some(*folded) || other != Some(*ranged) {
-            return Some(place);
+    for (at, (kind, tran, n, group)) in TRANSACTIONS.iter().enumerate() {
+        if !has_group(exits, *kind, tran, *n, *group) {
+            return Some(at);
         }
     }
     None
 }
 
+// The stored functions are called once for each row.
 #[test]
-fn transactions_have_the_groups_of_the_kinds(rt: HostRuntime) -> Result<(), Fail> {
+fn keys_have_the_places_of_the_kinds(rt: HostRuntime) -> Result<(), AllocError> {
     let calls = Rc::new(rt.alloc(), Cell::new(0u64))?;
-    let exits = routers(rt.alloc(), calls.clone()?)?;
+    let exits = Exits::new(spreaders(rt.alloc(), &calls)?, Vec::new(rt.alloc()));
+    let wrong = first_other_key(&exits);
+    assert!(rt; wrong.is_none() && calls.get() == 24, "key {wrong:?}");
+    Ok(())
+}
+
+#[test]
+fn transactions_have_the_groups_of_the_kinds(rt: HostRuntime) -> Result<(), AllocError> {
+    let calls = Rc::new(rt.alloc(), Cell::new(0u64))?;
+    let exits = Exits::new(Vec::new(rt.alloc()), routers(rt.alloc(), &calls)?);
     let wrong = first_other_transaction(&exits);
-    assert!(rt; wrong.is_none(), "transaction {wrong:?}");
-    // The stored function is called for each transaction.
-    assert!(rt; calls.get() == 8);
+    assert!(rt;
+        wrong.is_none() && calls.get() == 16,
+        "transaction {wrong:?}"
+    );
     Ok(())
 }
 

@@ -3,7 +3,6 @@ use crate::queues::terminal;
 use balancing::Lasts;
 use fp_model::Bytes;
 use std::alloc::{AllocError, Global};
-use std::test::Fail;
 
 /// What is done, and what is to come of it. Terminals go by their digit.
 enum Step {
@@ -41,39 +40,41 @@ static IN_ORDER: [Step; 18] = [
     Step::Has(2, 7, b"T2 OK"),
 ];
 
-/// Whether a step answers so.
-fn answers(alloc: Global, lasts: &mut Lasts, step: &Step) -> Result<bool, AllocError> {
-    match *step {
-        Step::Set(digit, number, line) => {
-            let line = Bytes::from_slice(alloc, line)?;
-            lasts.reserve(1)?;
+/// Whether a terminal gets a number and a line.
+fn is_set(alloc: Global, lasts: &mut Lasts, digit: u8, number: u64, line: &[u8]) -> bool {
+    match (Bytes::from_slice(alloc, line), lasts.reserve(1)) {
+        (Ok(line), Ok(())) => {
             lasts.set(&terminal(digit), number, line);
-            Ok(true)
+            true
         }
-        Step::Has(digit, number, line) => Ok(lasts.of(&terminal(digit)) == Some((number, line))),
-        Step::HasNone(digit) => Ok(lasts.of(&terminal(digit)).is_none()),
-        Step::At(place, digit, number, count) => {
-            let found = lasts.at(place).map(|last| (*last.0, last.1));
-            Ok(found == Some((terminal(digit), number)) && lasts.len() == count)
-        }
-        Step::Past(place) => Ok(lasts.at(place).is_none()),
+        _ => false,
     }
 }
 
-/// The place of the first step that answers something else.
-fn first_wrong(alloc: Global, steps: &[Step]) -> Result<Option<usize>, AllocError> {
-    let mut lasts = Lasts::new(alloc)?;
-    for (place, step) in steps.iter().enumerate() {
-        if !answers(alloc, &mut lasts, step)? {
-            return Ok(Some(place));
-        }
+/// Whether a step answers so.
+fn answers(alloc: Global, lasts: &mut Lasts, step: &Step) -> bool {
+    match *step {
+        Step::Set(digit, number, line) => is_set(alloc, lasts, digit, number, line),
+        Step::Has(digit, number, line) => match lasts.of(&terminal(digit)) {
+            Some(found) => found.0 == number && *found.1 == *line,
+            None => false,
+        },
+        Step::HasNone(digit) => lasts.of(&terminal(digit)).is_none(),
+        Step::At(place, digit, number, count) => match lasts.at(place) {
+            Some(found) => {
+                *found.0 == terminal(digit) && found.1 == number && lasts.len() == count
+            }
+            None => false,
+        },
+        Step::Past(place) => lasts.at(place).is_none(),
     }
-    Ok(None)
 }
 
 #[test]
-fn terminals_and_their_numbers(rt: HostRuntime) -> Result<(), Fail> {
-    let wrong = first_wrong(rt.alloc(), &IN_ORDER)?;
-    assert!(rt; wrong.is_none(), "at {wrong:?}");
+fn terminals_and_their_numbers(rt: HostRuntime) -> Result<(), AllocError> {
+    let mut lasts = Lasts::new(rt.alloc())?;
+    for (place, step) in IN_ORDER.iter().enumerate() {
+        assert!(rt; answers(rt.alloc(), &mut lasts, step), "at {place}");
+    }
     Ok(())
 }

@@ -1,7 +1,8 @@
 //! Message lines that are read, and a reply line. Each fault, border and outcome is data of a program above.
 use fp_messages::{read_message, reply_line, terminal_of};
-use fp_model::{Bytes, Entry, List, Message, Name, Outcome};
-use std::test::Fail;
+use fp_model::{Entry, Message, Name};
+use log_format::entries;
+use std::alloc::Global;
 
 /// A line.
 const LINE: &[u8] = b"Z9 DEPOSIT A001 10";
@@ -31,27 +32,51 @@ fn is_message(
         && message.line.as_slice() == line
 }
 
-#[test]
-fn a_message_has_its_words_its_text_and_its_number(rt: HostRuntime) -> Result<(), Fail> {
-    for (place, (format, line, tran, text, number)) in MESSAGES.iter().enumerate() {
-        let message = read_message(rt.alloc(), *format, line)?;
-        let is_so = is_message(&message, line, **tran, text, *number);
-        assert!(rt; is_so && terminal_of(line) == Some(Z9), "message {place}");
+/// Whether a line is read so.
+fn is_read(
+    alloc: Global,
+    (format, line, tran, text, number): (u8, &[u8], &[u8; 8], &[u8], Option<u64>),
+) -> bool {
+    match read_message(alloc, format, line) {
+        Ok(message) => is_message(&message, line, *tran, text, number),
+        Err(_) => false,
     }
-    Ok(())
 }
 
 #[test]
-fn a_terminal_is_told(rt: HostRuntime) -> Result<(), Fail> {
-    let entry = Entry {
-        from: 0,
-        outcome: Outcome::Done,
-        line: Bytes::from_slice(rt.alloc(), LINE)?,
-        reply: Bytes::from_slice(rt.alloc(), b"NEW")?,
-        notes: List::new(rt.alloc()),
-        items: List::new(rt.alloc()),
-    };
-    let sent = reply_line(rt.alloc(), &entry)?;
-    assert!(rt; sent.as_slice() == b"Z9 OK NEW\n".as_slice());
-    Ok(())
+fn a_message_has_its_words_its_text_and_its_number(rt: HostRuntime) {
+    for (place, row) in MESSAGES.iter().enumerate() {
+        assert!(rt;
+            is_read(rt.alloc(), *row) && terminal_of(row.1) == Some(Z9),
+            "message {place}"
+        );
+    }
+}
+
+/// An entry of the line, whose reply is `NEW`, with no notes and no items.
+const ENTRY: [u8; 50] = *b"\x00\x00\x00\x00\x00\x00\x00\x2a\x00\x00\x00\x00\x00\x00\x00\x00\x00\
+    \x00\x12Z9 DEPOSIT A001 10\x00\x03NEW\x00\x00\x00\x00\x00\x00\x00\x00";
+
+/// Whether an entry is told so.
+fn is_told(alloc: Global, entry: &Entry, wanted: &[u8]) -> bool {
+    match reply_line(alloc, entry) {
+        Ok(sent) => sent.as_slice() == wanted,
+        Err(_) => false,
+    }
+}
+
+/// Whether the entry is told.
+fn is_entry_told(alloc: Global) -> bool {
+    match entries(alloc, &ENTRY) {
+        Ok(found) => match found.as_slice() {
+            [entry] => is_told(alloc, entry, b"Z9 OK NEW\n"),
+            _ => false,
+        },
+        Err(_) => false,
+    }
+}
+
+#[test]
+fn a_terminal_is_told(rt: HostRuntime) {
+    assert!(rt; is_entry_told(rt.alloc()));
 }

@@ -1,7 +1,6 @@
 //! Loads that are drawn from a number.
-use generated_load::{Load, generate};
-use std::alloc::{AllocError, Global};
-use std::test::Fail;
+use generated_load::generate;
+use std::alloc::Global;
 
 // A number, how its messages begin and end, how many bytes they have, and the same of its schedule, as
 // `scripts/load_of.py` draws them.
@@ -47,18 +46,19 @@ fn is_drawn(text: &[u8], (begins, ends, length): (&str, &str, usize)) -> bool {
 }
 
 // Whether a load is that of its number.
-fn is_load(alloc: Global, drawn: &Drawn) -> Result<bool, AllocError> {
-    let Load { schedule, messages } = generate(alloc, drawn.number)?;
-    Ok(
-        is_drawn(messages.as_slice(), drawn.messages)
-            && is_drawn(schedule.as_slice(), drawn.schedule),
-    )
+fn is_load(alloc: Global, drawn: &Drawn) -> bool {
+    match generate(alloc, drawn.number) {
+        Ok(load) => {
+            is_drawn(load.messages.as_slice(), drawn.messages)
+                && is_drawn(load.schedule.as_slice(), drawn.schedule)
+        }
+        Err(_) => false,
+    }
 }
 
 #[test]
-fn loads_are_drawn_from_their_numbers(rt: HostRuntime) -> Result<(), Fail> {
+fn loads_are_drawn_from_their_numbers(rt: HostRuntime) {
     for drawn in &DRAWN {
-        assert!(rt; is_load(rt.alloc(), drawn)?, "at {}", drawn.number);
+        assert!(rt; is_load(rt.alloc(), drawn), "at {}", drawn.number);
     }
-    Ok(())
 }

@@ -6,17 +6,20 @@ use fp_model::{Bytes, Mode, Resource};
 use std::alloc::{AllocError, Global};
 use std::test::Fail;
 
-/// What is asked of the locks, and what is to come of it.
-enum Step {
-    /// A region asks for a resource.
-    Ask(u8, Wanted, Mode, Answer),
-    /// A region holds a resource so.
-    Holds(u8, Wanted, Option<Mode>),
+/// What is done with a resource in a region, and what is to come of it.
+enum Deed {
+    /// The region asks for it.
+    Ask(Mode, Answer),
+    /// The region holds it so.
+    Holds(Option<Mode>),
     /// Whether an anchor of a database is held, from the first to the last.
     AnyIn(u8, u32, u32, bool),
-    /// A region lets all go.
-    Release(u8),
+    /// The region lets all go.
+    Release,
 }
+
+/// A deed with its region and its resource.
+type Step = (Deed, u8, Wanted);
 
 /// A resource.
 #[derive(Clone, Copy)]
@@ -35,42 +38,67 @@ enum Answer {
     Cycle(&'static [u8]),
 }
 
+/// A resource that plays no part.
+const NONE: Wanted = Wanted::Anchor(0);
+
 /// Three regions want one anchor.
 const ONE_ANCHOR: &[Step] = &[
-    Step::AnyIn(0, 0, 9, false),
-    Step::Ask(1, Wanted::Anchor(5), Mode::Share, Answer::Held),
-    Step::Ask(2, Wanted::Anchor(5), Mode::Share, Answer::Held),
-    Step::Ask(3, Wanted::Anchor(5), Mode::Exclusive, Answer::Wait(&[1, 2])),
-    Step::Ask(1, Wanted::Anchor(5), Mode::Exclusive, Answer::Wait(&[2])),
-    Step::Ask(
+    (Deed::AnyIn(0, 0, 9, false), 1, NONE),
+    (Deed::Ask(Mode::Share, Answer::Held), 1, Wanted::Anchor(5)),
+    (Deed::Ask(Mode::Share, Answer::Held), 2, Wanted::Anchor(5)),
+    (
+        Deed::Ask(Mode::Exclusive, Answer::Wait(&[1, 2])),
+        3,
+        Wanted::Anchor(5),
+    ),
+    (
+        Deed::Ask(Mode::Exclusive, Answer::Wait(&[2])),
+        1,
+        Wanted::Anchor(5),
+    ),
+    (
+        Deed::Ask(Mode::Exclusive, Answer::Cycle(&[2, 1])),
         2,
         Wanted::Anchor(5),
-        Mode::Exclusive,
-        Answer::Cycle(&[2, 1]),
     ),
-    Step::Release(2),
-    Step::Holds(2, Wanted::Anchor(5), None),
-    Step::Ask(1, Wanted::Anchor(5), Mode::Exclusive, Answer::Held),
-    Step::Holds(1, Wanted::Anchor(5), Some(Mode::Exclusive)),
-    Step::AnyIn(0, 5, 5, true),
-    Step::AnyIn(0, 6, 9, false),
-    Step::AnyIn(1, 0, 9, false),
+    (Deed::Release, 2, NONE),
+    (Deed::Holds(None), 2, Wanted::Anchor(5)),
+    (
+        Deed::Ask(Mode::Exclusive, Answer::Held),
+        1,
+        Wanted::Anchor(5),
+    ),
+    (Deed::Holds(Some(Mode::Exclusive)), 1, Wanted::Anchor(5)),
+    (Deed::AnyIn(0, 5, 5, true), 1, NONE),
+    (Deed::AnyIn(0, 6, 9, false), 1, NONE),
+    (Deed::AnyIn(1, 0, 9, false), 1, NONE),
 ];
 
 /// Two regions want two keys crosswise.
 const TWO_KEYS: &[Step] = &[
-    Step::Ask(1, Wanted::Key(b"A1"), Mode::Exclusive, Answer::Held),
-    Step::Ask(2, Wanted::Key(b"A2"), Mode::Exclusive, Answer::Held),
-    Step::Ask(1, Wanted::Key(b"A2"), Mode::Share, Answer::Wait(&[2])),
-    Step::Ask(
+    (
+        Deed::Ask(Mode::Exclusive, Answer::Held),
+        1,
+        Wanted::Key(b"A1"),
+    ),
+    (
+        Deed::Ask(Mode::Exclusive, Answer::Held),
+        2,
+        Wanted::Key(b"A2"),
+    ),
+    (
+        Deed::Ask(Mode::Share, Answer::Wait(&[2])),
+        1,
+        Wanted::Key(b"A2"),
+    ),
+    (
+        Deed::Ask(Mode::Exclusive, Answer::Cycle(&[2, 1])),
         2,
         Wanted::Key(b"A1"),
-        Mode::Exclusive,
-        Answer::Cycle(&[2, 1]),
     ),
-    Step::Release(2),
-    Step::Ask(1, Wanted::Key(b"A2"), Mode::Share, Answer::Held),
-    Step::Holds(1, Wanted::Key(b"A2"), Some(Mode::Share)),
+    (Deed::Release, 2, NONE),
+    (Deed::Ask(Mode::Share, Answer::Held), 1, Wanted::Key(b"A2")),
+    (Deed::Holds(Some(Mode::Share)), 1, Wanted::Key(b"A2")),
 ];
 
 fn resource(alloc: Global, wanted: Wanted) -> Result<Resource, AllocError> {
@@ -83,48 +111,51 @@ fn resource(alloc: Global, wanted: Wanted) -> Result<Resource, AllocError> {
     })
 }
 
-fn is_grant(grant: Grant, answer: Answer) -> bool {
+fn is_grant(grant: &Grant, answer: &Answer) -> bool {
     match (grant, answer) {
         (Grant::Held, Answer::Held) => true,
-        (Grant::Wait(found), Answer::Wait(wanted)) => found.as_slice() == wanted,
-        (Grant::Cycle(found), Answer::Cycle(wanted)) => found.as_slice() == wanted,
+        (Grant::Wait(found), Answer::Wait(wanted)) => found.as_slice() == *wanted,
+        (Grant::Cycle(found), Answer::Cycle(wanted)) => found.as_slice() == *wanted,
         _ => false,
     }
 }
 
-/// Whether a step answers so, of locks of three regions.
-fn answers(alloc: Global, locks: &mut Locks, step: &Step) -> Result<bool, AllocError>
+/// Whether a deed with a resource answers so, of locks of three regions.
+fn answers(locks: &mut Locks, deed: &Deed, region: u8, resource: &Resource) -> bool
     requires { length locks.old ≡ 3 }
     ensures { length locks.new ≡ 3 }
 {
-    match *step {
-        Step::Ask(region @ 1..=3, wanted, mode, answer) => {
-            let wanted = resource(alloc, wanted)?;
-            let grant = locks.ask(region, &wanted, mode)?;
-            Ok(is_grant(grant, answer))
-        }
-        Step::Holds(region @ 1..=3, wanted, mode) => {
-            let wanted = resource(alloc, wanted)?;
-            Ok(locks.holds(region, &wanted) == mode)
-        }
-        Step::AnyIn(dedb, first, last, is_held) => Ok(locks.any_in(dedb, first, last) == is_held),
-        Step::Release(region @ 1..=3) => {
+    if region < 1 || region > 3 {
+        return false;
+    }
+    match deed {
+        Deed::Ask(mode, answer) => match locks.ask(region, resource, *mode) {
+            Ok(grant) => is_grant(&grant, answer),
+            Err(AllocError) => false,
+        },
+        Deed::Holds(mode) => locks.holds(region, resource) == *mode,
+        Deed::AnyIn(dedb, first, last, is_held) => locks.any_in(*dedb, *first, *last) == *is_held,
+        Deed::Release => {
             locks.release_all(region);
-            Ok(true)
+            true
         }
-        _ => Ok(false),
     }
 }
 
 /// The place of the first step that answers something else.
-fn first_wrong(alloc: Global, steps: &[Step]) -> Result<Option<usize>, AllocError> {
-    let mut locks = Locks::new(alloc, 3)?;
-    for (place, step) in steps.iter().enumerate() {
-        if !answers(alloc, &mut locks, step)? {
-            return Ok(Some(place));
+fn first_wrong(alloc: Global, locks: &mut Locks, steps: &[Step]) -> Option<usize>
+    requires { length locks.old ≡ 3 }
+{
+    for (place, (deed, region, wanted)) in steps.iter().enumerate() {
+        let is_so = match resource(alloc, *wanted) {
+            Ok(resource) => answers(locks, deed, *region, &resource),
+            Err(AllocError) => false,
+        };
+        if !is_so {
+            return Some(place);
         }
     }
-    Ok(None)
+    None
 }
 
 static RUNS: [(&str, &[Step]); 2] = [
@@ -135,7 +166,8 @@ static RUNS: [(&str, &[Step]); 2] = [
 #[test]
 fn regions_share_wait_and_deadlock(rt: HostRuntime) -> Result<(), Fail> {
     for (name, steps) in &RUNS {
-        let wrong = first_wrong(rt.alloc(), steps)?;
+        let mut locks = Locks::new(rt.alloc(), 3)?;
+        let wrong = first_wrong(rt.alloc(), &mut locks, steps);
         assert!(rt; wrong.is_none(), "{name}: at {wrong:?}");
     }
     Ok(())

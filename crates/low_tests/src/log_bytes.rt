@@ -2,7 +2,7 @@
 //!
 //! Entries of each outcome and item, and damage, are data of a program above.
 ghost use Rattle.fp_model.specs.LogText.{body_text};
-ghost use Rattle.std.specs.Prelude.{◌≡◌, IfOk};
+ghost use Rattle.std.specs.Prelude.{◌≡◌, ◌<◌, ◌^◌, IfOk, length};
 
 use fp_model::{Bytes, Entry, Item, List, Outcome};
 use log_format::{
@@ -11,7 +11,6 @@ use log_format::{
     put_u64, short_of, u16_of, u32_of, u64_of, write_entry,
 };
 use std::alloc::{AllocError, Global};
-use std::test::Fail;
 
 /// The body of a group: one deposit, with a note and a segment.
 const DEPOSIT: [u8; 75] =
@@ -19,27 +18,30 @@ const DEPOSIT: [u8; 75] =
     \x00\x03NEW\x00\x00\x00\x01\x00\x00\x00\x00\x00\x00\x00\x00\x00\x00\x00\x01\x01\x00\x04A001\x00\x08A001\
     \x00\x00\x11\x0c";
 
-/// Its segment.
-fn segment(alloc: Global) -> Result<Item, AllocError> {
-    Ok(Item::Segment {
-        msdb: 0,
-        key: Bytes::from_slice(alloc, b"A001")?,
-        bytes: Bytes::from_slice(alloc, b"A001\x00\x00\x11\x0c")?,
-    })
+/// Whether an item is its segment.
+fn is_segment(item: &Item) -> bool {
+    match item {
+        Item::Segment { msdb, key, bytes } => {
+            *msdb == 0
+                && key.as_slice() == b"A001".as_slice()
+                && bytes.as_slice() == b"A001\x00\x00\x11\x0c".as_slice()
+        }
+        _ => false,
+    }
 }
 
-/// Its entry.
-fn deposit(alloc: Global) -> Result<Entry, AllocError> {
-    let mut items = List::new(alloc);
-    items.push(segment(alloc)?)?;
-    Ok(Entry {
-        from: 0,
-        outcome: Outcome::Done,
-        line: Bytes::from_slice(alloc, b"T1 DEPOSIT A001 10")?,
-        reply: Bytes::from_slice(alloc, b"NEW")?,
-        notes: List::from_vec(Vec::from_slice(alloc, &[0])?),
-        items,
-    })
+/// Whether an entry is it.
+fn is_deposit(e: &Entry) -> bool {
+    let is_item = match e.items.as_slice() {
+        [item] => is_segment(item),
+        _ => false,
+    };
+    is_item
+        && e.from == 0
+        && matches!(e.outcome, Outcome::Done)
+        && e.line.as_slice() == b"T1 DEPOSIT A001 10".as_slice()
+        && e.reply.as_slice() == b"NEW".as_slice()
+        && e.notes.as_slice() == [0].as_slice()
 }
 
 /// Reads entries and writes them again.
@@ -65,109 +67,182 @@ fn written_in_room(alloc: Global, bytes: &[u8]) -> Result<Vec<u8>, FormatFault> 
     Ok(again)
 }
 
-/// Whether it is read.
-fn is_read(alloc: Global) -> Result<bool, FormatFault> {
-    let found = entries(alloc, &DEPOSIT)?;
-    let wanted = deposit(alloc)?;
-    match found.as_slice() {
-        [only] => Ok(*only == wanted),
-        _ => Ok(false),
+/// Whether the deposit is read.
+fn is_read(alloc: Global) -> bool {
+    match entries(alloc, &DEPOSIT) {
+        Ok(found) => match found.as_slice() {
+            [only] => is_deposit(only),
+            _ => false,
+        },
+        Err(_) => false,
+    }
+}
+
+/// Whether it is written as it was read.
+fn is_rewritten(alloc: Global) -> bool {
+    match rewritten(alloc, &DEPOSIT) {
+        Ok(again) => again.as_slice() == DEPOSIT.as_slice(),
+        Err(_) => false,
+    }
+}
+
+/// Whether it is written so into just its room.
+fn is_written_in_room(alloc: Global) -> bool {
+    match written_in_room(alloc, &DEPOSIT) {
+        Ok(again) => again.as_slice() == DEPOSIT.as_slice() && again.capacity() == 75,
+        Err(_) => false,
     }
 }
 
 #[test]
-fn an_entry_is_read_and_written(rt: HostRuntime) -> Result<(), Fail> {
-    assert!(rt; is_read(rt.alloc())?);
-    assert!(rt; rewritten(rt.alloc(), &DEPOSIT)?.as_slice() == DEPOSIT.as_slice());
-    let in_room = written_in_room(rt.alloc(), &DEPOSIT)?;
-    assert!(rt; in_room.as_slice() == DEPOSIT.as_slice() && in_room.capacity() == 75);
-    Ok(())
+fn an_entry_is_read_and_written(rt: HostRuntime) {
+    assert!(rt; is_read(rt.alloc()));
+    assert!(rt; is_rewritten(rt.alloc()) && is_written_in_room(rt.alloc()));
 }
 
-/// A number of two bytes, of four and of eight.
-const NUMBERS: [u8; 14] = [1, 2, 0, 0, 0, 3, 0, 0, 0, 0, 0, 0, 0, 4];
-
-/// Whether they are written.
-fn numbers_are_written(alloc: Global) -> Result<bool, AllocError> {
-    let mut bytes = Bytes::new(alloc);
-    put_u16(&mut bytes, 0x0102)?;
-    put_u32(&mut bytes, 0x03)?;
-    put_u64(&mut bytes, 0x04)?;
-    Ok(bytes.as_slice() == NUMBERS.as_slice())
+/// A field of a format.
+enum Field {
+    /// A number of two bytes, of four and of eight.
+    Two(u16),
+    Four(u32),
+    Eight(u64),
+    /// Numbers behind their count.
+    Numbers(&'static [u64; 2]),
+    /// A text.
+    Text(Width, &'static [u8; 2]),
 }
 
-/// The numbers at the front of bytes: of two bytes, of four and of eight.
-fn three_numbers(bytes: &[u8]) -> Option<(u16, u32, u64)> {
-    let (two, rest) = u16_of(bytes).ok()?;
-    let (four, rest) = u32_of(rest).ok()?;
-    let (eight, _) = u64_of(rest).ok()?;
-    Some((two, four, eight))
+/// What stands before a text.
+#[derive(Clone, Copy)]
+enum Width {
+    /// Its length in one byte, in two, in four.
+    One,
+    Two,
+    Four,
 }
 
-/// Two numbers behind their count.
-const COUNTED: [u8; 20] =
-    *b"\x00\x00\x00\x02\x00\x00\x00\x00\x00\x00\x00\x07\x00\x00\x00\x00\x00\x00\x00\x08";
+/// Fields one behind another, and their bytes.
+static FIELDS: [Field; 7] = [
+    Field::Two(0x0102),
+    Field::Four(0x03),
+    Field::Eight(0x04),
+    Field::Numbers(&[7, 8]),
+    Field::Text(Width::One, b"ab"),
+    Field::Text(Width::Two, b"ab"),
+    Field::Text(Width::Four, b"ab"),
+];
 
-/// Whether they are written and read.
-fn are_counted(alloc: Global) -> Result<bool, AllocError> {
-    let numbers = List::from_vec(Vec::from_slice(alloc, &[7u64, 8])?);
-    let mut bytes = Bytes::new(alloc);
-    put_numbers(&mut bytes, &numbers)?;
-    match numbers_of(alloc, &COUNTED) {
-        Ok((read, _)) => Ok(read == numbers && bytes.as_slice() == COUNTED.as_slice()),
-        Err(_) => Ok(false),
+const SPELLED: [u8; 47] = *b"\x01\x02\x00\x00\x00\x03\x00\x00\x00\x00\x00\x00\x00\x04\
+    \x00\x00\x00\x02\x00\x00\x00\x00\x00\x00\x00\x07\x00\x00\x00\x00\x00\x00\x00\x08\
+    \x02ab\x00\x02ab\x00\x00\x00\x02ab";
+
+/// Appends a text.
+fn put_text(into: &mut Bytes, width: Width, text: &Bytes) -> Result<(), AllocError>
+    requires { length text.now < 2 ^ 8 }
+{
+    match width {
+        Width::One => put_short(into, text),
+        Width::Two => put_long(into, text),
+        Width::Four => put_part(into, text),
     }
 }
 
+/// Appends a field.
+fn put(alloc: Global, into: &mut Bytes, field: &Field) -> Result<(), AllocError> {
+    match *field {
+        Field::Two(n) => put_u16(into, n),
+        Field::Four(n) => put_u32(into, n),
+        Field::Eight(n) => put_u64(into, n),
+        Field::Numbers(numbers) => {
+            let numbers = List::from_vec(Vec::from_slice(alloc, numbers)?);
+            put_numbers(into, &numbers)
+        }
+        Field::Text(width, text) => put_text(into, width, &Bytes::from_slice(alloc, text)?),
+    }
+}
+
+/// Whether the fields are written so.
+fn are_written(alloc: Global) -> bool {
+    let mut bytes = Bytes::new(alloc);
+    for field in &FIELDS {
+        if put(alloc, &mut bytes, field).is_err() {
+            return false;
+        }
+    }
+    bytes.as_slice() == SPELLED.as_slice()
+}
+
+/// Reads a text.
+fn text_of(alloc: Global, width: Width, bytes: &[u8]) -> Result<(Bytes, &[u8]), ReadError> {
+    match width {
+        Width::One => short_of(alloc, bytes),
+        Width::Two => long_of(alloc, bytes),
+        Width::Four => part_text_of(alloc, bytes),
+    }
+}
+
+/// What stands behind a number, if it was read so.
+fn behind_number<T: Into<u64>>(read: Result<(T, &[u8]), ReadError>, n: u64) -> Option<&[u8]> {
+    match read {
+        Ok((found, rest)) => same(found.into() == n, rest),
+        Err(_) => None,
+    }
+}
+
+/// What stands behind numbers, if they are read so.
+fn behind_numbers<'a>(alloc: Global, numbers: &[u64], bytes: &'a [u8]) -> Option<&'a [u8]> {
+    match numbers_of(alloc, bytes) {
+        Ok((found, rest)) => same(found.as_slice() == numbers, rest),
+        Err(_) => None,
+    }
+}
+
+/// What stands behind a text, if it is read so.
+fn behind_text<'a>(alloc: Global, width: Width, text: &[u8], bytes: &'a [u8]) -> Option<&'a [u8]> {
+    match text_of(alloc, width, bytes) {
+        Ok((found, rest)) => same(found.as_slice() == text, rest),
+        Err(_) => None,
+    }
+}
+
+fn same(is_same: bool, rest: &[u8]) -> Option<&[u8]> {
+    if is_same { Some(rest) } else { None }
+}
+
+/// What stands behind a field, if it is read so.
+fn behind<'a>(alloc: Global, field: &Field, bytes: &'a [u8]) -> Option<&'a [u8]> {
+    match *field {
+        Field::Two(n) => behind_number(u16_of(bytes), u64::from(n)),
+        Field::Four(n) => behind_number(u32_of(bytes), u64::from(n)),
+        Field::Eight(n) => behind_number(u64_of(bytes), n),
+        Field::Numbers(numbers) => behind_numbers(alloc, numbers, bytes),
+        Field::Text(width, text) => behind_text(alloc, width, text, bytes),
+    }
+}
+
+/// Whether no byte is read as a part, and none stands behind it.
+fn is_part(alloc: Global, bytes: &[u8]) -> bool {
+    match part_of(alloc, 0, bytes) {
+        Ok((found, rest)) => found.is_empty() && rest.is_empty(),
+        Err(_) => false,
+    }
+}
+
+/// Whether the fields are read so, to the end.
+fn are_read(alloc: Global) -> bool {
+    let mut rest = SPELLED.as_slice();
+    for field in &FIELDS {
+        match behind(alloc, field, rest) {
+            Some(next) => rest = next,
+            None => return false,
+        }
+    }
+    is_part(alloc, rest)
+}
+
 #[test]
-fn numbers_are_written_and_read(rt: HostRuntime) -> Result<(), Fail> {
-    assert!(rt; numbers_are_written(rt.alloc())?);
-    assert!(rt; three_numbers(&NUMBERS) == Some((258, 3, 4)));
+fn fields_are_written_and_read(rt: HostRuntime) {
+    assert!(rt; are_written(rt.alloc()) && are_read(rt.alloc()));
     assert!(rt; number_of(&[0, 0, 0, 0, 0, 0, 1, 1]) == 257);
     assert!(rt; matches!(byte_of(&[5, 6]), Ok((5, _))));
-    assert!(rt; are_counted(rt.alloc())?);
-    Ok(())
-}
-
-/// Texts behind their length: `ab` in one byte, in two, in four.
-const TEXTS: [u8; 13] = *b"\x02ab\x00\x02ab\x00\x00\x00\x02ab";
-
-/// Whether they are written.
-fn texts_are_written(alloc: Global) -> Result<bool, AllocError> {
-    let text = Bytes::from_slice(alloc, b"ab")?;
-    let mut bytes = Bytes::new(alloc);
-    put_short(&mut bytes, &text)?;
-    put_long(&mut bytes, &text)?;
-    put_part(&mut bytes, &text)?;
-    Ok(bytes.as_slice() == TEXTS.as_slice())
-}
-
-/// What stands behind a text that was read, if it is this one.
-fn behind<'a>(read: (Bytes, &'a [u8]), text: &[u8]) -> Option<&'a [u8]> {
-    let (found, rest) = read;
-    if found.as_slice() != text {
-        return None;
-    }
-    Some(rest)
-}
-
-/// Whether bytes are this text behind a length of one byte, of two and of four.
-fn read_as_texts(alloc: Global, bytes: &[u8], text: &[u8]) -> Result<bool, ReadError> {
-    let Some(rest) = behind(short_of(alloc, bytes)?, text) else {
-        return Ok(false);
-    };
-    let Some(rest) = behind(long_of(alloc, rest)?, text) else {
-        return Ok(false);
-    };
-    let Some(rest) = behind(part_text_of(alloc, rest)?, text) else {
-        return Ok(false);
-    };
-    Ok(behind(part_of(alloc, 0, rest)?, b"") == Some(b"".as_slice()))
-}
-
-#[test]
-fn texts_are_written_and_read(rt: HostRuntime) -> Result<(), Fail> {
-    assert!(rt; texts_are_written(rt.alloc())?);
-    assert!(rt; read_as_texts(rt.alloc(), &TEXTS, b"ab")?);
-    Ok(())
 }

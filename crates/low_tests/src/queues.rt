@@ -3,22 +3,18 @@ ghost use Rattle.std.specs.Prelude.{◌≡◌, length};
 ghost use Rattle.fp_model.specs.Exits.{route};
 ghost use Rattle.fp_exits.specs.Ranges.{IsRoutable};
 
+use crate::steps::ended;
 use balancing::{Offer, Queues};
 use fp_exits::{Router, Routing, fold_group};
 use fp_model::{Bytes, Kind, Message, Name};
 use std::alloc::{AllocError, Global};
-use std::test::Fail;
 
 /// What is done with the queues, and what is to come of it. Terminals go by their digit.
 enum Step {
-    /// A message of a terminal to a transaction comes into the queue of this group.
-    Queued(u8, &'static [u8; 8], &'static [u8], u8),
-    /// Such a message comes back, since its terminal waits.
-    Back(u8, &'static [u8; 8], &'static [u8]),
-    /// The oldest message of a group has this text.
-    Take(u8, &'static [u8]),
-    /// A group has no message.
-    Empty(u8),
+    /// A message of a terminal to a transaction comes into the queue of this group, or comes back since it waits.
+    Offer(u8, &'static [u8; 8], &'static [u8], Option<u8>),
+    /// The oldest message of a group has this text, or it has none.
+    Take(u8, Option<&'static [u8]>),
     /// So many messages are queued, and the oldest of a group has this text.
     Holds(u128, u8, &'static [u8]),
     /// Whether a terminal waits.
@@ -28,38 +24,38 @@ enum Step {
 }
 
 /// Messages leave their group first in, first out.
-const IN_TURN: [Step; 8] = [
-    Step::Queued(1, b"WDRAW   ", b"first", 2),
-    Step::Queued(2, b"DEPOSIT ", b"second", 1),
-    Step::Queued(3, b"ASK     ", b"third", 2),
+const IN_TURN: &[Step] = &[
+    Step::Offer(1, b"WDRAW   ", b"first", Some(2)),
+    Step::Offer(2, b"DEPOSIT ", b"second", Some(1)),
+    Step::Offer(3, b"ASK     ", b"third", Some(2)),
     Step::Holds(3, 2, b"first"),
-    Step::Take(2, b"first"),
-    Step::Take(1, b"second"),
-    Step::Take(2, b"third"),
-    Step::Empty(2),
+    Step::Take(2, Some(b"first")),
+    Step::Take(1, Some(b"second")),
+    Step::Take(2, Some(b"third")),
+    Step::Take(2, None),
 ];
 
 /// A terminal waits until it is answered, also when its message is taken.
-const WAITING: [Step; 15] = [
+const WAITING: &[Step] = &[
     Step::Busy(1, false),
-    Step::Queued(1, b"DEPOSIT ", b"first", 1),
+    Step::Offer(1, b"DEPOSIT ", b"first", Some(1)),
     Step::Busy(1, true),
-    Step::Back(1, b"DEPOSIT ", b"second"),
-    Step::Queued(2, b"DEPOSIT ", b"other", 1),
-    Step::Take(1, b"first"),
+    Step::Offer(1, b"DEPOSIT ", b"second", None),
+    Step::Offer(2, b"DEPOSIT ", b"other", Some(1)),
+    Step::Take(1, Some(b"first")),
     Step::Busy(1, true),
-    Step::Take(1, b"other"),
-    Step::Empty(1),
-    Step::Empty(2),
+    Step::Take(1, Some(b"other")),
+    Step::Take(1, None),
+    Step::Take(2, None),
     Step::Answered(1),
     Step::Busy(1, false),
     Step::Busy(2, true),
-    Step::Queued(1, b"ASK     ", b"third", 2),
-    Step::Take(2, b"third"),
+    Step::Offer(1, b"ASK     ", b"third", Some(2)),
+    Step::Take(2, Some(b"third")),
 ];
 
 /// A terminal may wait without a message.
-const MARKED: [Step; 11] = [
+const MARKED: &[Step] = &[
     Step::Mark(2),
     Step::Busy(2, true),
     Step::Mark(1),
@@ -88,6 +84,15 @@ fn message(alloc: Global, lterm: u8, tran: &[u8; 8], text: &[u8]) -> Result<Mess
     })
 }
 
+/// Whether this is a message with this text, or none.
+fn has_text(message: Option<&Message>, text: Option<&[u8]>) -> bool {
+    match (message, text) {
+        (Some(message), Some(text)) => message.text.as_slice() == text,
+        (None, None) => true,
+        _ => false,
+    }
+}
+
 /// Whether the oldest message of one of two groups has this text.
 fn takes(queues: &mut Queues, group: u8, text: Option<&[u8]>) -> bool
     requires { length queues.old.queues ≡ 2 }
@@ -96,8 +101,7 @@ fn takes(queues: &mut Queues, group: u8, text: Option<&[u8]>) -> bool
     if group != 1 && group != 2 {
         return false;
     }
-    let taken = queues.take(group);
-    taken.as_ref().map(|message| message.text.as_slice()) == text
+    has_text(queues.take(group).as_ref(), text)
 }
 
 /// Whether so many messages are queued, and the oldest of one of two groups has this text.
@@ -107,91 +111,121 @@ fn holds(queues: &Queues, count: u128, group: u8, oldest: &[u8]) -> bool
     if group != 1 && group != 2 {
         return false;
     }
-    let first = queues.oldest(group).map(|message| message.text.as_slice());
-    queues.count() == count && queues.is_empty() == (count == 0) && first == Some(oldest)
+    let is_counted = queues.count() == count && queues.is_empty() == (count == 0);
+    is_counted && has_text(queues.oldest(group), Some(oldest))
 }
 
-/// Whether a step of two groups answers so.
-fn answers(
+/// Whether a message that was offered came into the queue of this group; or back as it was, where there is none.
+fn is_offered(offer: &Offer, group: Option<u8>, terminal: Name, tran: Name, text: &[u8]) -> bool {
+    match (offer, group) {
+        (Offer::Queued(found), Some(group)) => *found == group,
+        (Offer::TerminalBusy(back), None) => {
+            back.lterm == terminal
+                && back.tran == tran
+                && back.text.as_slice() == text
+                && back.line.is_empty()
+                && back.number.is_none()
+        }
+        _ => false,
+    }
+}
+
+/// Whether a message of a terminal that is offered comes into the queue of this group, or back where there is none.
+fn offers(
     alloc: Global,
     queues: &mut Queues,
     router: &Router,
-    step: &Step,
-) -> Result<bool, AllocError>
+    offered: (u8, &[u8; 8], &[u8]),
+    group: Option<u8>,
+) -> bool
+    requires { length queues.old.queues ≡ 2 }
+    ensures { length queues.new.queues ≡ 2 }
+{
+    let (lterm, tran, text) = offered;
+    match message(alloc, lterm, tran, text) {
+        Ok(message) => match queues.offer(message, router) {
+            Ok(offer) => is_offered(&offer, group, terminal(lterm), Name(*tran), text),
+            Err(AllocError) => false,
+        },
+        Err(AllocError) => false,
+    }
+}
+
+/// Whether a step of two groups answers so.
+fn answers(alloc: Global, queues: &mut Queues, router: &Router, step: &Step) -> bool
     requires { length queues.old.queues ≡ 2 }
     ensures { length queues.new.queues ≡ 2 }
 {
     match *step {
-        Step::Queued(lterm, tran, text, group) => {
-            let offered = message(alloc, lterm, tran, text)?;
-            Ok(queues.offer(offered, router)? == Offer::Queued(group))
+        Step::Offer(lterm, tran, text, group) => {
+            offers(alloc, queues, router, (lterm, tran, text), group)
         }
-        Step::Back(lterm, tran, text) => {
-            let offered = message(alloc, lterm, tran, text)?;
-            let same = message(alloc, lterm, tran, text)?;
-            Ok(queues.offer(offered, router)? == Offer::TerminalBusy(same))
-        }
-        Step::Take(group, text) => Ok(takes(queues, group, Some(text))),
-        Step::Empty(group) => Ok(takes(queues, group, None)),
-        Step::Holds(count, group, oldest) => Ok(holds(queues, count, group, oldest)),
-        Step::Busy(lterm, is_busy) => Ok(queues.busy(&terminal(lterm)) == is_busy),
-        Step::Mark(lterm) => {
-            queues.mark(&terminal(lterm))?;
-            Ok(true)
-        }
+        Step::Take(group, text) => takes(queues, group, text),
+        Step::Holds(count, group, oldest) => holds(queues, count, group, oldest),
+        Step::Busy(lterm, is_busy) => queues.busy(&terminal(lterm)) == is_busy,
+        Step::Mark(lterm) => queues.mark(&terminal(lterm)).is_ok(),
         Step::Answered(lterm) => {
             queues.answered(&terminal(lterm));
-            Ok(true)
+            true
         }
     }
 }
 
 static RUNS: [(&str, &[Step]); 3] = [
-    ("in turn", &IN_TURN),
-    ("waiting", &WAITING),
-    ("marked", &MARKED),
+    ("in turn", IN_TURN),
+    ("waiting", WAITING),
+    ("marked", MARKED),
 ];
 
 /// The place of the first step that answers something else.
-fn first_wrong(
-    alloc: Global,
-    router: &Router,
-    steps: &[Step],
-) -> Result<Option<usize>, AllocError> {
-    let mut queues = Queues::new(alloc, 2)?;
+fn first_wrong(alloc: Global, queues: &mut Queues, router: &Router, steps: &[Step]) -> Option<usize>
+    requires { length queues.old.queues ≡ 2 }
+{
     for (place, step) in steps.iter().enumerate() {
-        if !answers(alloc, &mut queues, router, step)? {
-            return Ok(Some(place));
+        if !answers(alloc, queues, router, step) {
+            return Some(place);
         }
     }
-    Ok(None)
+    None
 }
 
-#[test]
-fn terminals_and_their_messages(rt: HostRuntime) -> Result<(), Fail> {
+/// A router that folds.
+fn folding(alloc: Global) -> Result<Router, AllocError> {
     let folds: Routing = Box::new(
-        rt.alloc(),
+        alloc,
         |tran: &Name, n: u64| -> u64
             requires { IsRoutable tran.now n }
             ensures { result ≡ route Kind.Fold n tran.now }
         { fold_group(tran, n) },
     )?;
-    let router = Router::new(Kind::Fold, folds);
+    Ok(Router::new(Kind::Fold, folds))
+}
+
+/// The same of new queues; the number of steps where there is no memory for them.
+fn first_wrong_of(alloc: Global, router: &Router, steps: &[Step]) -> Option<usize> {
+    match Queues::new(alloc, 2) {
+        Ok(mut queues) => {
+            let wrong = first_wrong(alloc, &mut queues, router, steps);
+            ended(queues, wrong)
+        }
+        Err(AllocError) => Some(steps.len()),
+    }
+}
+
+#[test]
+fn terminals_and_their_messages(rt: HostRuntime) -> Result<(), AllocError> {
+    let router = folding(rt.alloc())?;
     for (name, steps) in &RUNS {
-        assert!(rt;
-            first_wrong(rt.alloc(), &router, steps)?.is_none(),
-            "{name}"
-        );
+        let wrong = first_wrong_of(rt.alloc(), &router, steps);
+        assert!(rt; wrong.is_none(), "{name}: at {wrong:?}");
     }
     Ok(())
 }
 
 #[test]
-fn sixteen_groups_begin_empty(rt: HostRuntime) -> Result<(), Fail> {
+fn sixteen_groups_begin_empty(rt: HostRuntime) -> Result<(), AllocError> {
     let mut queues = Queues::new(rt.alloc(), 16)?;
-    assert!(rt; queues.is_empty() && queues.oldest(16).is_none());
-    assert!(rt; queues.take(16).is_none());
-    queues.mark(&terminal(1))?;
-    assert!(rt; queues.busy(&terminal(1)));
+    assert!(rt; queues.is_empty() && queues.oldest(16).is_none() && queues.take(16).is_none());
+    assert!(rt; queues.mark(&terminal(1)).is_ok() && queues.busy(&terminal(1)));
     Ok(())
 }

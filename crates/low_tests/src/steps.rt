@@ -14,12 +14,17 @@ pub(crate) enum Step {
 }
 
 /// What it answers.
-#[derive(Drop, PartialEq)]
 pub(crate) enum Answer {
     Done,
     Failed,
     Length(u64),
     Bytes([u8; 4]),
+}
+
+/// Lets a value go, and hands on what was said of it. Of a value with many parts, a function that lets it go itself is dear
+/// to prove.
+pub(crate) fn ended<T: Drop, U>(_value: T, said: U) -> U {
+    said
 }
 
 /// Takes the steps on a data set. The place of the first that answers something else.
@@ -29,48 +34,49 @@ pub(crate) fn first_wrong<T: Site>(
     rows: &[(Step, Answer)],
 ) -> Option<usize> {
     for (place, (step, wanted)) in rows.iter().enumerate() {
-        if take(site, set, step) != *wanted {
+        if !answers(site, set, step, wanted) {
             return Some(place);
         }
     }
     None
 }
 
-/// Takes one step on a data set.
-pub(crate) fn take<T: Site>(site: &mut T, set: u16, step: &Step) -> Answer {
+/// Takes one step on a data set, and says whether it answers so.
+pub(crate) fn answers<T: Site>(site: &mut T, set: u16, step: &Step, wanted: &Answer) -> bool {
     match *step {
-        Step::Size => size(site, set),
-        Step::Reach => ended(site.reach(set, 1 << 62)),
-        Step::Read(at) => read(site, set, at),
-        Step::Write(at, bytes) => write(site, set, at, bytes),
-        Step::Sync => ended(site.sync(set)),
-        Step::Send(text) => ended(site.send(text)),
+        Step::Size => has_size(site.size(set), wanted),
+        Step::Reach => ends(site.reach(set, 1 << 62), wanted),
+        Step::Read(at) => reads(site, set, at, wanted),
+        Step::Write(at, bytes) => {
+            let few = &bytes[..bytes.len().min(8)];
+            ends(site.write_at(set, u64::from(at), few), wanted)
+        }
+        Step::Sync => ends(site.sync(set), wanted),
+        Step::Send(text) => ends(site.send(text), wanted),
     }
 }
 
-fn ended(answer: Result<(), Failed>) -> Answer {
-    match answer {
-        Ok(()) => Answer::Done,
-        Err(Failed) => Answer::Failed,
+fn ends(answer: Result<(), Failed>, wanted: &Answer) -> bool {
+    match wanted {
+        Answer::Done => answer.is_ok(),
+        Answer::Failed => answer.is_err(),
+        _ => false,
     }
 }
 
-fn size<T: Site>(site: &mut T, set: u16) -> Answer {
-    match site.size(set) {
-        Ok(length) => Answer::Length(length),
-        Err(Failed) => Answer::Failed,
+fn has_size(answer: Result<u64, Failed>, wanted: &Answer) -> bool {
+    match (answer, wanted) {
+        (Ok(length), Answer::Length(wanted)) => length == *wanted,
+        (Err(Failed), Answer::Failed) => true,
+        _ => false,
     }
 }
 
-fn read<T: Site>(site: &mut T, set: u16, at: u64) -> Answer {
+fn reads<T: Site>(site: &mut T, set: u16, at: u64, wanted: &Answer) -> bool {
     let mut into = [9u8; 4];
-    match site.read_at(set, at, &mut into) {
-        Ok(()) => Answer::Bytes(into),
-        Err(Failed) => Answer::Failed,
+    match (site.read_at(set, at, &mut into), wanted) {
+        (Ok(()), Answer::Bytes(wanted)) => into == *wanted,
+        (Err(Failed), Answer::Failed) => true,
+        _ => false,
     }
-}
-
-fn write<T: Site>(site: &mut T, set: u16, at: u32, bytes: &[u8]) -> Answer {
-    let few = &bytes[..bytes.len().min(8)];
-    ended(site.write_at(set, u64::from(at), few))
 }

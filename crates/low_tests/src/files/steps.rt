@@ -1,5 +1,5 @@
 //! Sites over folders, and steps on them.
-use crate::steps::{Answer, Step, first_wrong, take};
+use crate::steps::{Answer, Step, answers, first_wrong};
 use fp_files::{Access, FileSite, Folder};
 use std::fs;
 use std::fs::File;
@@ -52,7 +52,7 @@ pub(super) fn ends(rt: &HostRuntime, dir: &str, absent: &[&str]) -> Result<(), F
 /// Takes the steps, each on its data set.
 pub(super) fn all_go(rt: &impl Abort, site: &mut TestSite<'_>, rows: &[(u16, Step, Answer)]) {
     for (place, (set, step, want)) in rows.iter().enumerate() {
-        assert!(rt; take(site, *set, step) == *want, "step {place}");
+        assert!(rt; answers(site, *set, step, want), "step {place}");
     }
 }
 

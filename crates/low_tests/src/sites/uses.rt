@@ -5,9 +5,10 @@ ghost use Rattle.fp_site.specs.Moments.{OnlyOn, Through};
 ghost use Rattle.fp_lists.specs.Continued.{IsContinued};
 ghost use Rattle.fp_lists.specs.Faults.{Counts};
 
+use crate::steps::ended;
 use fp_site::{Failed, Site};
-use memory_site::MemorySite;
-use std::test::Fail;
+use memory_site::{MemorySite, Snapshot};
+use std::alloc::{AllocError, Global};
 
 // Writes to a data set that every crash leaves as it reads, and makes the write durable.
 fn write_durably<S: Site>(site: &mut S, set: u16, at: u64, from: &[u8]) -> Result<(), Failed>
@@ -26,15 +27,44 @@ fn write_durably<S: Site>(site: &mut S, set: u16, at: u64, from: &[u8]) -> Resul
     Ok(())
 }
 
-#[test]
-fn a_durable_write_is_in_every_snapshot(rt: HostRuntime) -> Result<(), Fail> {
-    let alloc = rt.alloc();
-    let mut site = MemorySite::new(alloc, &[])?;
-    assert!(rt; write_durably(&mut site, 2, 1, &[7]) == Ok(()));
-    for choice in 0..8 {
-        let snapshot = site.snapshot_as(choice)?;
-        let again = MemorySite::from_snapshot(alloc, snapshot, &[])?;
-        assert!(rt; again.contents(2) == [0, 7].as_slice());
+// Whether a site from a snapshot has what was written.
+fn has_it(alloc: Global, snapshot: Snapshot) -> bool {
+    match MemorySite::from_snapshot(alloc, snapshot, &[]) {
+        Ok(again) => {
+            let is_so = again.contents(2) == [0, 7].as_slice();
+            ended(again, is_so)
+        }
+        Err(AllocError) => false,
     }
-    Ok(())
+}
+
+// Whether a crash of each choice leaves what was written.
+fn is_left(alloc: Global, site: &MemorySite) -> bool {
+    for choice in 0..8 {
+        let is_so = match site.snapshot_as(choice) {
+            Ok(snapshot) => has_it(alloc, snapshot),
+            Err(AllocError) => false,
+        };
+        if !is_so {
+            return false;
+        }
+    }
+    true
+}
+
+// Whether a durable write is in every snapshot.
+fn is_durable(alloc: Global) -> bool {
+    match MemorySite::new(alloc, &[]) {
+        Ok(mut site) => {
+            let is_written = write_durably(&mut site, 2, 1, &[7]).is_ok();
+            let is_so = is_written && is_left(alloc, &site);
+            ended(site, is_so)
+        }
+        Err(AllocError) => false,
+    }
+}
+
+#[test]
+fn a_durable_write_is_in_every_snapshot(rt: HostRuntime) {
+    assert!(rt; is_durable(rt.alloc()));
 }
