@@ -1,7 +1,5 @@
 pub mod Places
 pub mod Ends
-pub mod Exits
-pub mod Events
 pub mod Turns
 pub mod Exacts
 pub mod Steps

@@ -5,8 +5,7 @@ use Rattle.fp_model.specs.Settle.{resources}
 use Rattle.fp_model.specs.Turns.{asks}
 use Rattle.fp_core.specs.Relation.{IsAhead}
 use Rattle.fp_core.proofs.answering.go_on.Goals as goal
-use Rattle.std.proofs.lemmas.Result.{IfOk-from_err}
-use Rattle.plain_laws.proofs.Results.{on_err, on_err_by}
+use Rattle.plain_laws.proofs.Results.{on_err_by}
 use Rattle.fp_core.specs.declared.engine.Active.{Active}
 use Rattle.fp_core.specs.Relation.{IsTransaction}
 
@@ -25,13 +24,6 @@ take_call-requires-clause-under g c =
         },
       ),
     )
-
-pub returns-in_err-ahead-clause-acted : goal.returns-in_err-ahead-clause-acted
-returns-in_err-ahead-clause-acted g c now t e s =
-    IfOk-from_err c.from_residual.result _ c.from_residual.ensures.0
-
-pub returns-in_err-ahead-clause-err : goal.returns-in_err-ahead-clause-err
-returns-in_err-ahead-clause-err g c t s = on_err c.from_residual.result (c.look_ahead.ensures.same t s)
 
 pub returns-in-Call-clause-acted : goal.returns-in-Call-clause-acted
 returns-in-Call-clause-acted g c now t e s =
@@ -63,9 +55,6 @@ returns-in-Reply-clause-err g c t s =
     (IsTransaction c.args.defs.now c.args.scripts.now.scripts c.take_reply.new.active t) c.take_reply.result
     (λ same. subst (λ (a : Active). IsTransaction c.args.defs.now c.args.scripts.now.scripts a t) (sym same)
     (c.look_ahead.ensures.same t s)) c.take_reply.ensures.err
-
-pub returns-in-Roll-clause-err : goal.returns-in-Roll-clause-err
-returns-in-Roll-clause-err g c t s = tt
 
 pub returns-in-Roll-clause-acted : goal.returns-in-Roll-clause-acted
 returns-in-Roll-clause-acted g c now t e s =

@@ -17,7 +17,6 @@ use Rattle.fp_core.specs.declared.engine.Ahead.TheVariants as ahead
 use Rattle.fp_core.specs.inside.Answering.{lock_for}
 use Rattle.fp_core.proofs.Goings.{keeps, needs_are, noted_is, nothing}
 use Rattle.fp_core.proofs.answering.take_call.Goals as goal
-use Rattle.std.proofs.lemmas.Result.{IfOk-from_err}
 use Rattle.plain_laws.proofs.Results.{on_err}
 use Rattle.dli_calls.specs.declared.work.Work.{Work}
 use Rattle.fp_core.specs.Relation.{IsTransaction}
@@ -47,20 +46,10 @@ answer-requires-clause-exits g c =
 pub give-requires : goal.give-requires
 give-requires g c = (c.args.call, c.requires.under.1.1.ahead.waits)
 
-pub returns-in_err-ready-clause-acted : goal.returns-in_err-ready-clause-acted
-returns-in_err-ready-clause-acted g c scripts now t e s =
-    IfOk-from_err c.from_residual.result _ c.from_residual.ensures.0
-
 pub returns-in_err-ready-clause-err : goal.returns-in_err-ready-clause-err
 returns-in_err-ready-clause-err g c scripts t s =
     on_err c.from_residual.result (subst (λ (w : Work). IsTransaction c.args.defs.now scripts
     (record c.args.active.now { work = w }) t) (sym c.in_err-ready.ensures.err) s)
-
-pub returns-in-Answer-clause-err : goal.returns-in-Answer-clause-err
-returns-in-Answer-clause-err g c scripts t s = tt
-
-pub returns-in-Need-clause-err : goal.returns-in-Need-clause-err
-returns-in-Need-clause-err g c scripts t s = tt
 
 pub returns-in-Answer-clause-acted : goal.returns-in-Answer-clause-acted
 returns-in-Answer-clause-acted g c scripts now t e h =

@@ -1,4 +1,4 @@
-use Rattle.std.proofs.Common.{refl, ◌≡◌, sym, ◌∙◌, ap, Option, Some}
+use Rattle.std.proofs.Common.{◌≡◌, sym, ◌∙◌, ap, Option, Some}
 use Rattle.std.specs.Prelude.{option_map}
 use Rattle.ci_locks.specs.Table.{standing}
 use Rattle.fp_model.specs.declared.calls.Resource.{Resource}
@@ -10,15 +10,6 @@ use Rattle.fp_core.specs.inside.Answering.{lock_for}
 use Rattle.fp_core.proofs.Goings.{as_exclusive, keeps}
 use Rattle.fp_core.proofs.Lacks.{is_first_lack}
 use Rattle.fp_core.proofs.answering.take_reply.Goals as goal
-use Rattle.std.proofs.lemmas.Result.{IfOk-from_err}
-use Rattle.plain_laws.proofs.Results.{on_err}
-
-pub returns-in_err-lack-in-Some-clause-acted : goal.returns-in_err-lack-in-Some-clause-acted
-returns-in_err-lack-in-Some-clause-acted c defs scripts now count t h =
-    IfOk-from_err c.from_residual.result _ c.from_residual.ensures.0
-
-pub returns-in_err-lack-in-Some-clause-err : goal.returns-in_err-lack-in-Some-clause-err
-returns-in_err-lack-in-Some-clause-err c = on_err c.from_residual.result refl
 
 pub returns-in_ok-lack-in-Some-clause-acted : goal.returns-in_ok-lack-in-Some-clause-acted
 returns-in_ok-lack-in-Some-clause-acted c defs scripts now count t h =

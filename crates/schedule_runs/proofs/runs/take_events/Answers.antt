@@ -1,8 +1,4 @@
-use Rattle.fp_core.proofs.Exits.{err_of_stop}
-use Rattle.std.proofs.lemmas.Result.{IfOk-from_err}
-use Rattle.std.specs.Prelude.{option_map}
-use Rattle.fp_core.specs.declared.stop.Stop.TheVariants as stops
-use Rattle.std.proofs.Common.{refl, sym, ◌∙◌, ap, subst, arith, ◌+◌, ◌≤◌, List, length, drop, get_or, Err, ℕ}
+use Rattle.std.proofs.Common.{refl, sym, ◌∙◌, ap, subst, arith, ◌+◌, ◌≤◌, List, length, drop, get_or, Err}
 use Rattle.std.proofs.lemmas.List.{at_drop_all, drop_more}
 use Rattle.fp_model.specs.declared.events.Event.{Event}
 use Rattle.fp_model.specs.declared.events.Event.TheVariants as event
@@ -10,7 +6,7 @@ use Rattle.fp_source.specs.declared.part.Part.TheVariants as part
 use Rattle.fp_core.specs.declared.stop.Stop.{Stop}
 use Rattle.fp_core.specs.Relation.{rules_in}
 use Rattle.fp_core.specs.Sparing.{IsLogSet, IsSealing}
-use Rattle.fp_core.specs.Standing.{Leaves, MayStop, seals_of, IsCausedBySite, IsCausedBySource, number_of}
+use Rattle.fp_core.specs.Standing.{Leaves, MayStop, seals_of}
 use Rattle.fp_core.proofs.FrontLemmas.{fronts_none, fronts_on, holds_none, holds_on}
 use Rattle.fp_lists.proofs.ContinuedLemmas.{continued_both, continued_none}
 use Rattle.fp_source.proofs.Calls.{reads_joined, reads_none}
@@ -51,6 +47,8 @@ loop-event-init g c =
       source = reads_none g.S.Source.told g.S.Source.left g.S.Source.faults g.S.Source.holds g.S.Source.keeps
           part.Messages c.args.source.now;
     }
+
+-- ---- one event more
 
 pub loop-event-preserved : goal.loop-event-preserved
 loop-event-preserved g c =
@@ -116,126 +114,79 @@ loop-event-preserved g c =
           part.Messages c.args.source.now c.loop-event.source c.step.new.source i.source one.source;
     }
 
-pub returns-in_err-step : goal.returns-in_err-step
-returns-in_err-step g c = record {
-  stopped = λ origin m told tells beside reached.
-      let core = c.args.core.now in
-      let mid = c.loop-event.core in
-      let i = c.loop-event.invariant in
-      let es = c.args.events.now in
-      let at = c.loop-event.event-index in
-      let disk = g.T.Site.disk c.args.site.now in
-      let disk1 = g.T.Site.disk c.loop-event.site in
-      let disk2 = g.T.Site.disk c.step.new.site in
-      let left1 = g.S.Source.left c.loop-event.source part.Messages in
-      let next = ap next_event (drop_more es at event.In c.loop-event-test.true) in
-      let on = i.stands origin m told tells beside reached in
-      let told1 = i.site.still_told told in
-      let stop = c.in_err-step.field-0.0 in
-      if_err_from (IsStopped origin core.engine.defs.now (rules_in core.engine) es m disk core.lines disk2)
-      c.from_residual.result stop c.from_residual.ensures.1
-      (stopped_step origin es m disk core.lines core.engine (drop at es) disk1 mid.lines left1 mid.engine i.rules
-      (ap (λ d. d.now) i.defs) on disk2
-      (subst (λ (x : Event). Leaves origin (rules_in mid.engine) on.here (seals_of x on.here) disk1 disk2) (sym next)
-      (c.step.ensures.leaves origin on.here told1 on.beside.at))
-      stop
-      (subst (λ (x : Event). MayStop x mid.engine.held stop) (sym next) c.in_err-step.ensures.stops)
-      (λ number is. c.in_err-step.ensures.number number (ap (λ (x : Stop). Err x) is))
-      (λ region is. (c.in_err-step.ensures.unbegun on.here region (sym next ∙ is) on.beside.at.parts).idle)
-      (λ calm. ap (λ s. g.T.Site.disk s) (c.step.ensures.untouched (subst (λ (x : Event). ¬ IsSealing x) next calm))));
-  moments = λ origin m told tells beside reached.
-      let core = c.args.core.now in
-      let mid = c.loop-event.core in
-      let i = c.loop-event.invariant in
-      let es = c.args.events.now in
-      let at = c.loop-event.event-index in
-      let disk = g.T.Site.disk c.args.site.now in
-      let disk1 = g.T.Site.disk c.loop-event.site in
-      let disk2 = g.T.Site.disk c.step.new.site in
-      let left1 = g.S.Source.left c.loop-event.source part.Messages in
-      let next = ap next_event (drop_more es at event.In c.loop-event-test.true) in
-      let on = i.stands origin m told tells beside reached in
-      let told1 = i.site.still_told told in
-      moments_step origin es m disk core.lines core.engine (drop at es) disk1 mid.lines left1 mid.engine i.rules
-      (ap (λ d. d.now) i.defs) on disk2
-      (subst (λ (x : Event). Leaves origin (rules_in mid.engine) on.here (seals_of x on.here) disk1 disk2) (sym next)
-      (c.step.ensures.leaves origin on.here told1 on.beside.at))
-      (g.met.T.Site.lawful c.loop-event.site told1) (i.moments origin m told tells beside reached);
-  spares = λ told.
-      let told1 = c.loop-event.invariant.site.still_told told in
-      spares_on IsLogSet (g.T.Site.disk c.args.site.now) (g.T.Site.disk c.loop-event.site)
-      (g.T.Site.disk c.step.new.site) (g.met.T.Site.lawful c.loop-event.site told1)
-      (c.loop-event.invariant.spares told) (c.step.ensures.spares told1);
-  front = λ told.
-      let i = c.loop-event.invariant in
-      fronts_on (g.T.Site.disk c.args.site.now) (g.T.Site.disk c.loop-event.site) (g.T.Site.disk c.step.new.site)
-      c.args.core.now.engine.log.gate c.loop-event.core.engine.log.gate (i.front told) (i.front_on told)
-      (c.step.ensures.front (i.site.still_told told));
-  reached = IfOk-from_err c.from_residual.result _ c.from_residual.ensures.0;
-  taken = λ origin m told tells beside reached. IfOk-from_err c.from_residual.result _ c.from_residual.ensures.0;
-  site_calm = IfOk-from_err c.from_residual.result _ c.from_residual.ensures.0;
-  source_calm = IfOk-from_err c.from_residual.result _ c.from_residual.ensures.0;
-  fair = λ tells. IfOk-from_err c.from_residual.result _ c.from_residual.ensures.0;
-  front_on = λ told. IfOk-from_err c.from_residual.result _ c.from_residual.ensures.0;
-  site_cause =
-      if_err_from (IsCausedBySite (g.T.Site.faults c.args.site.now) (g.T.Site.faults c.step.new.site))
-      c.from_residual.result c.in_err-step.field-0.0 c.from_residual.ensures.1 (subst (λ (n : ℕ). IsCausedBySite n
-      (g.T.Site.faults c.step.new.site) c.in_err-step.field-0.0) c.loop-event.invariant.site_calm
-      c.in_err-step.ensures.site_cause);
-  source_cause =
-      if_err_from (IsCausedBySource (g.S.Source.faults c.args.source.now) (g.S.Source.faults c.step.new.source))
-      c.from_residual.result c.in_err-step.field-0.0 c.from_residual.ensures.1 (subst (λ (n : ℕ). IsCausedBySource n
-      (g.S.Source.faults c.step.new.source) c.in_err-step.field-0.0) c.loop-event.invariant.source_calm
-      c.in_err-step.ensures.source_cause);
-  line = λ tells n is.
-      sym (ap (option_map number_of) (c.loop-event.invariant.fair tells)) ∙ c.in_err-step.ensures.line
-      (c.loop-event.invariant.source.continued.still_told tells) n (err_of_stop c.from_residual.result
-      c.in_err-step.field-0.0 (stops.LineFault n) c.from_residual.ensures.1 is);
-  routed = c.step.ensures.routed;
-  reads =
-      reads_nothing_both (g.T.Site.tells_reads c.args.site.now) (g.T.Site.tells_reads c.loop-event.site)
-      (g.T.Site.tells_reads c.step.new.site) (g.T.Site.bytes_read c.args.site.now) (g.T.Site.bytes_read
-      c.loop-event.site) (g.T.Site.bytes_read c.step.new.site) c.loop-event.invariant.reads c.step.ensures.reads;
-  site =
-      continued_both g.T.Site.told g.T.Site.faults g.T.Site.holds g.T.Site.keeps c.args.site.now c.loop-event.site
-      c.step.new.site c.loop-event.invariant.site c.step.ensures.site;
-  source =
-      reads_joined g.S.Source.told g.S.Source.left g.S.Source.faults g.S.Source.holds g.S.Source.keeps part.Messages
-      c.args.source.now c.loop-event.source c.step.new.source c.loop-event.invariant.source c.step.ensures.source;
-  rules = c.step.ensures.rules ∙ c.loop-event.invariant.rules;
-  defs = c.step.ensures.defs ∙ c.loop-event.invariant.defs;
-  scripts = c.step.ensures.scripts ∙ c.loop-event.invariant.scripts;
-}
+-- ---- a stop
 
-pub returns : goal.returns
-returns g c = record {
-  taken = λ origin m told tells beside reached.
-      let core = c.args.core.now in
-      let mid = c.loop-event.core in
-      let es = c.args.events.now in
-      let long : length es ≤ c.loop-event.event-index = omega (arith, c.loop-event-test.false) in
-      subst (λ (left : List Event). StandsOnWay origin core.engine.defs.now (rules_in core.engine) es m
-      (g.T.Site.disk c.args.site.now) core.lines left (g.T.Site.disk c.loop-event.site) mid.lines
-      (g.S.Source.left c.loop-event.source part.Messages) mid.engine)
-      (at_drop_all (λ (xs : List Event). xs) es c.loop-event.event-index long)
-      (c.loop-event.invariant.stands origin m told tells beside reached);
-  reached = c.loop-event.invariant.reached;
-  site_calm = c.loop-event.invariant.site_calm;
-  source_calm = c.loop-event.invariant.source_calm;
-  moments = c.loop-event.invariant.moments;
-  fair = c.loop-event.invariant.fair;
-  rules = c.loop-event.invariant.rules;
-  defs = c.loop-event.invariant.defs;
-  scripts = c.loop-event.invariant.scripts;
-  routed = c.loop-event.invariant.routed;
-  reads = c.loop-event.invariant.reads;
-  spares = c.loop-event.invariant.spares;
-  front = c.loop-event.invariant.front;
-  front_on = c.loop-event.invariant.front_on;
-  site = c.loop-event.invariant.site;
-  source = c.loop-event.invariant.source;
-  stopped = λ origin m told tells beside reached. tt;
-  site_cause = tt;
-  source_cause = tt;
-  line = λ tells n is. absurd cc;
-}
+pub returns-in_err-step-clause-stopped : goal.returns-in_err-step-clause-stopped
+returns-in_err-step-clause-stopped g c origin m told tells beside reached =
+    let core = c.args.core.now in
+    let mid = c.loop-event.core in
+    let i = c.loop-event.invariant in
+    let es = c.args.events.now in
+    let at = c.loop-event.event-index in
+    let disk = g.T.Site.disk c.args.site.now in
+    let disk1 = g.T.Site.disk c.loop-event.site in
+    let disk2 = g.T.Site.disk c.step.new.site in
+    let left1 = g.S.Source.left c.loop-event.source part.Messages in
+    let next = ap next_event (drop_more es at event.In c.loop-event-test.true) in
+    let on = i.stands origin m told tells beside reached in
+    let told1 = i.site.still_told told in
+    let stop = c.in_err-step.field-0.0 in
+    if_err_from (IsStopped origin core.engine.defs.now (rules_in core.engine) es m disk core.lines disk2)
+    c.from_residual.result stop c.from_residual.ensures.1
+    (stopped_step origin es m disk core.lines core.engine (drop at es) disk1 mid.lines left1 mid.engine i.rules
+    (ap (λ d. d.now) i.defs) on disk2
+    (subst (λ (x : Event). Leaves origin (rules_in mid.engine) on.here (seals_of x on.here) disk1 disk2) (sym next)
+    (c.step.ensures.leaves origin on.here told1 on.beside.at))
+    stop
+    (subst (λ (x : Event). MayStop x mid.engine.held stop) (sym next) c.in_err-step.ensures.stops)
+    (λ number is. c.in_err-step.ensures.number number (ap (λ (x : Stop). Err x) is))
+    (λ region is. (c.in_err-step.ensures.unbegun on.here region (sym next ∙ is) on.beside.at.parts).idle)
+    (λ calm. ap (λ s. g.T.Site.disk s) (c.step.ensures.untouched (subst (λ (x : Event). ¬ IsSealing x) next calm))))
+
+pub returns-in_err-step-clause-moments : goal.returns-in_err-step-clause-moments
+returns-in_err-step-clause-moments g c origin m told tells beside reached =
+    let core = c.args.core.now in
+    let mid = c.loop-event.core in
+    let i = c.loop-event.invariant in
+    let es = c.args.events.now in
+    let at = c.loop-event.event-index in
+    let disk = g.T.Site.disk c.args.site.now in
+    let disk1 = g.T.Site.disk c.loop-event.site in
+    let disk2 = g.T.Site.disk c.step.new.site in
+    let left1 = g.S.Source.left c.loop-event.source part.Messages in
+    let next = ap next_event (drop_more es at event.In c.loop-event-test.true) in
+    let on = i.stands origin m told tells beside reached in
+    let told1 = i.site.still_told told in
+    moments_step origin es m disk core.lines core.engine (drop at es) disk1 mid.lines left1 mid.engine i.rules
+    (ap (λ d. d.now) i.defs) on disk2
+    (subst (λ (x : Event). Leaves origin (rules_in mid.engine) on.here (seals_of x on.here) disk1 disk2) (sym next)
+    (c.step.ensures.leaves origin on.here told1 on.beside.at))
+    (g.met.T.Site.lawful c.loop-event.site told1) (i.moments origin m told tells beside reached)
+
+pub returns-in_err-step-clause-spares : goal.returns-in_err-step-clause-spares
+returns-in_err-step-clause-spares g c told =
+    let told1 = c.loop-event.invariant.site.still_told told in
+    spares_on IsLogSet (g.T.Site.disk c.args.site.now) (g.T.Site.disk c.loop-event.site)
+    (g.T.Site.disk c.step.new.site) (g.met.T.Site.lawful c.loop-event.site told1)
+    (c.loop-event.invariant.spares told) (c.step.ensures.spares told1)
+
+pub returns-in_err-step-clause-front : goal.returns-in_err-step-clause-front
+returns-in_err-step-clause-front g c told =
+    let i = c.loop-event.invariant in
+    fronts_on (g.T.Site.disk c.args.site.now) (g.T.Site.disk c.loop-event.site) (g.T.Site.disk c.step.new.site)
+    c.args.core.now.engine.log.gate c.loop-event.core.engine.log.gate (i.front told) (i.front_on told)
+    (c.step.ensures.front (i.site.still_told told))
+
+-- ---- the end
+
+pub returns-clause-taken : goal.returns-clause-taken
+returns-clause-taken g c origin m told tells beside reached =
+    let core = c.args.core.now in
+    let mid = c.loop-event.core in
+    let es = c.args.events.now in
+    let long : length es ≤ c.loop-event.event-index = omega (arith, c.loop-event-test.false) in
+    subst (λ (left : List Event). StandsOnWay origin core.engine.defs.now (rules_in core.engine) es m
+    (g.T.Site.disk c.args.site.now) core.lines left (g.T.Site.disk c.loop-event.site) mid.lines
+    (g.S.Source.left c.loop-event.source part.Messages) mid.engine)
+    (at_drop_all (λ (xs : List Event). xs) es c.loop-event.event-index long)
+    (c.loop-event.invariant.stands origin m told tells beside reached)

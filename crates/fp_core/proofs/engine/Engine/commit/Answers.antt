@@ -1,6 +1,4 @@
-use Rattle.plain_laws.proofs.Results.{on_err}
 use Rattle.std.proofs.lemmas.List.{length-set}
-use Rattle.std.proofs.lemmas.Result.{IfOk-from_err}
 use Rattle.std.proofs.Common.{◌≡◌, refl, ◌∙◌, sym, ap, subst, arith, [], ◌∷◌, ◌++◌, ◌+◌, ◌≤◌, ℕ, ◌-◌, List, length, Option}
 use Rattle.std.specs.Prelude.{Err, ◌↔◌}
 use Rattle.std.specs.VecDeque.{deque_capacity}
@@ -178,99 +176,5 @@ returns-clause-err c m t w =
     c.active_in-active.ensures.there c.in_ok-draft.ensures
     c.commit.new.msdbs c.commit.new.log (e.of engine.defs.now.msdbs) e.segments e.sealed e.waiting e.spare)
 
--- ---- want of memory, and what stays
-
-pub returns-in_err-kept-clause-turned : goal.returns-in_err-kept-clause-turned
-returns-in_err-kept-clause-turned c m t h = IfOk-from_err c.from_residual.result _ c.from_residual.ensures.0
-
-pub returns-in_err-kept-clause-err : goal.returns-in_err-kept-clause-err
-returns-in_err-kept-clause-err c m t w = on_err c.from_residual.result (may_end c.args.self.now m c.args.region t w)
-
-pub returns-in_err-kept-clause-rules : goal.returns-in_err-kept-clause-rules
-returns-in_err-kept-clause-rules c = refl
-
-pub returns-in_err-kept-clause-defs : goal.returns-in_err-kept-clause-defs
-returns-in_err-kept-clause-defs c = refl
-
-pub returns-in_err-kept-clause-scripts : goal.returns-in_err-kept-clause-scripts
-returns-in_err-kept-clause-scripts c = refl
-
-pub returns-in_err-kept-clause-gate : goal.returns-in_err-kept-clause-gate
-returns-in_err-kept-clause-gate c = refl
-
-pub returns-in_err-kept-clause-count : goal.returns-in_err-kept-clause-count
-returns-in_err-kept-clause-count c = refl
-
-pub returns-in_err-draft-clause-turned : goal.returns-in_err-draft-clause-turned
-returns-in_err-draft-clause-turned c m t h =
-    IfOk-from_err c.from_residual-in_err-draft.result _ c.from_residual-in_err-draft.ensures.0
-
-pub returns-in_err-draft-clause-err : goal.returns-in_err-draft-clause-err
-returns-in_err-draft-clause-err c m t w =
-    on_err c.from_residual-in_err-draft.result (may_end c.args.self.now m c.args.region t w)
-
-pub returns-in_err-draft-clause-rules : goal.returns-in_err-draft-clause-rules
-returns-in_err-draft-clause-rules c = refl
-
-pub returns-in_err-draft-clause-defs : goal.returns-in_err-draft-clause-defs
-returns-in_err-draft-clause-defs c = refl
-
-pub returns-in_err-draft-clause-scripts : goal.returns-in_err-draft-clause-scripts
-returns-in_err-draft-clause-scripts c = refl
-
-pub returns-in_err-draft-clause-gate : goal.returns-in_err-draft-clause-gate
-returns-in_err-draft-clause-gate c = refl
-
-pub returns-in_err-draft-clause-count : goal.returns-in_err-draft-clause-count
-returns-in_err-draft-clause-count c = refl
-
-pub returns-in-Ok-clause-err : goal.returns-in-Ok-clause-err
-returns-in-Ok-clause-err c m t w = tt
-
-pub returns-in-Ok-clause-rules : goal.returns-in-Ok-clause-rules
-returns-in-Ok-clause-rules c = refl
-
-pub returns-in-Ok-clause-defs : goal.returns-in-Ok-clause-defs
-returns-in-Ok-clause-defs c = refl
-
-pub returns-in-Ok-clause-scripts : goal.returns-in-Ok-clause-scripts
-returns-in-Ok-clause-scripts c = refl
-
-pub returns-in-Ok-clause-gate : goal.returns-in-Ok-clause-gate
-returns-in-Ok-clause-gate c = c.commit.ensures.gate
-
 pub returns-in-Ok-clause-count : goal.returns-in-Ok-clause-count
 returns-in-Ok-clause-count c = ap length c.set_region.ensures ∙ length-set c.args.self.now.regions _ _
-
-pub returns-in-Err-Verify-clause-rules : goal.returns-in-Err-Verify-clause-rules
-returns-in-Err-Verify-clause-rules c = c.fail.ensures.rules
-
-pub returns-in-Err-Verify-clause-defs : goal.returns-in-Err-Verify-clause-defs
-returns-in-Err-Verify-clause-defs c = c.fail.ensures.defs
-
-pub returns-in-Err-Verify-clause-scripts : goal.returns-in-Err-Verify-clause-scripts
-returns-in-Err-Verify-clause-scripts c = c.fail.ensures.scripts
-
-pub returns-in-Err-Verify-clause-count : goal.returns-in-Err-Verify-clause-count
-returns-in-Err-Verify-clause-count c = c.fail.ensures.count
-
-pub returns-in-Err-Verify-clause-gate : goal.returns-in-Err-Verify-clause-gate
-returns-in-Err-Verify-clause-gate c = c.fail.ensures.gate ∙ c.commit.ensures.gate
-
-pub returns-clause-turned : goal.returns-clause-turned
-returns-clause-turned c m t h = tt
-
-pub returns-clause-rules : goal.returns-clause-rules
-returns-clause-rules c = refl
-
-pub returns-clause-defs : goal.returns-clause-defs
-returns-clause-defs c = refl
-
-pub returns-clause-scripts : goal.returns-clause-scripts
-returns-clause-scripts c = refl
-
-pub returns-clause-gate : goal.returns-clause-gate
-returns-clause-gate c = c.commit.ensures.gate
-
-pub returns-clause-count : goal.returns-clause-count
-returns-clause-count c = refl

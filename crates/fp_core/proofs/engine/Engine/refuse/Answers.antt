@@ -1,4 +1,3 @@
-use Rattle.std.proofs.lemmas.Result.{IfOk-from_err}
 use Rattle.std.proofs.Common.{refl, sym, subst, arith, ◌≤◌}
 use Rattle.std.specs.VecDeque.{deque_capacity}
 use Rattle.fp_model.specs.Machine.{ended_with}
@@ -34,11 +33,3 @@ returns-clause-ended c m t u =
     (uses_last engine m c.args.region t u entry engine.lasts.terminals new.lasts.terminals (c.requires.line m t u)
     (refusal_uses entry.outcome c.requires.refusal) (e.used m t u)) e.places
     (refusal_makes engine.defs.now m.history.now entry c.requires.refusal c.requires.rules.parts))
-
--- ---- want of memory
-
-pub returns-in_err-end-clause-ended : goal.returns-in_err-end-clause-ended
-returns-in_err-end-clause-ended c m t u = IfOk-from_err c.from_residual.result _ c.from_residual.ensures.0
-
-pub returns-clause-err : goal.returns-clause-err
-returns-clause-err c m t u = tt

@@ -1,6 +1,5 @@
 use Rattle.std.proofs.lemmas.List.{length-set}
-use Rattle.std.proofs.lemmas.Result.{IfOk-from_err}
-use Rattle.std.proofs.Common.{◌∙◌, ap, sym, arith, subst, length, ◌-◌, List, None, refl}
+use Rattle.std.proofs.Common.{◌∙◌, ap, sym, arith, subst, length, ◌-◌, List, None}
 use Rattle.fp_model.specs.declared.events.Event.TheVariants as event
 use Rattle.fp_core.specs.declared.did.Did.TheVariants as did
 use Rattle.fp_core.specs.declared.engine.Active.{Active}
@@ -109,78 +108,6 @@ make_room-requires-clause-few c =
       regions_long c.args.self.now c.requires.stands.0 c.requires.stands.1,
       c.requires.stands.1.setup.defined.regions.1,
     )
-
--- ---- want of memory, and what stays
-
-pub returns-in-None-clause-rules : goal.returns-in-None-clause-rules
-returns-in-None-clause-rules c = refl
-
-pub returns-in-None-clause-defs : goal.returns-in-None-clause-defs
-returns-in-None-clause-defs c = refl
-
-pub returns-in-None-clause-scripts : goal.returns-in-None-clause-scripts
-returns-in-None-clause-scripts c = refl
-
-pub returns-in-None-clause-gate : goal.returns-in-None-clause-gate
-returns-in-None-clause-gate c = refl
-
-pub returns-in-None-clause-count : goal.returns-in-None-clause-count
-returns-in-None-clause-count c = refl
-
-pub returns-in-None-clause-err : goal.returns-in-None-clause-err
-returns-in-None-clause-err c m s = tt
-
-pub returns-in_err-room-clause-turned : goal.returns-in_err-room-clause-turned
-returns-in_err-room-clause-turned c m s = IfOk-from_err c.from_residual.result _ c.from_residual.ensures.0
-
-pub returns-in_err-room-clause-rules : goal.returns-in_err-room-clause-rules
-returns-in_err-room-clause-rules c = refl
-
-pub returns-in_err-room-clause-defs : goal.returns-in_err-room-clause-defs
-returns-in_err-room-clause-defs c = refl
-
-pub returns-in_err-room-clause-scripts : goal.returns-in_err-room-clause-scripts
-returns-in_err-room-clause-scripts c = refl
-
-pub returns-in_err-room-clause-gate : goal.returns-in_err-room-clause-gate
-returns-in_err-room-clause-gate c = c.make_room.ensures.gate
-
-pub returns-in_err-room-clause-count : goal.returns-in_err-room-clause-count
-returns-in_err-room-clause-count c = refl
-
-pub returns-in_err-begun-clause-turned : goal.returns-in_err-begun-clause-turned
-returns-in_err-begun-clause-turned c m s =
-    IfOk-from_err c.from_residual-in_err-begun.result _ c.from_residual-in_err-begun.ensures.0
-
-pub returns-in_err-begun-clause-rules : goal.returns-in_err-begun-clause-rules
-returns-in_err-begun-clause-rules c = refl
-
-pub returns-in_err-begun-clause-defs : goal.returns-in_err-begun-clause-defs
-returns-in_err-begun-clause-defs c = refl
-
-pub returns-in_err-begun-clause-scripts : goal.returns-in_err-begun-clause-scripts
-returns-in_err-begun-clause-scripts c = refl
-
-pub returns-in_err-begun-clause-gate : goal.returns-in_err-begun-clause-gate
-returns-in_err-begun-clause-gate c = c.make_room.ensures.gate
-
-pub returns-in_err-begun-clause-count : goal.returns-in_err-begun-clause-count
-returns-in_err-begun-clause-count c = refl
-
-pub returns-clause-err : goal.returns-clause-err
-returns-clause-err c m s = tt
-
-pub returns-clause-rules : goal.returns-clause-rules
-returns-clause-rules c = refl
-
-pub returns-clause-defs : goal.returns-clause-defs
-returns-clause-defs c = refl
-
-pub returns-clause-scripts : goal.returns-clause-scripts
-returns-clause-scripts c = refl
-
-pub returns-clause-gate : goal.returns-clause-gate
-returns-clause-gate c = c.make_room.ensures.gate
 
 pub returns-clause-count : goal.returns-clause-count
 returns-clause-count c = ap length c.set_region.ensures ∙ length-set c.args.self.now.regions _ _

@@ -1,6 +1,4 @@
-use Rattle.plain_laws.proofs.Results.{on_err}
-use Rattle.std.proofs.lemmas.Result.{IfOk-from_err}
-use Rattle.std.proofs.Common.{◌≡◌, ◌∙◌, sym, ap, subst, arith, ◌-◌, Some, slice_get, slice_set, refl}
+use Rattle.std.proofs.Common.{◌≡◌, ◌∙◌, sym, ap, subst, arith, ◌-◌, Some, slice_get, slice_set}
 use Rattle.fp_model.specs.declared.calls.Message.{Message}
 use Rattle.fp_model.specs.Asking.{script_of}
 use Rattle.fp_model.specs.History.{place_of}
@@ -51,29 +49,3 @@ returns-clause-again c m t u =
     (tried_again (rules_in engine) c.args.region t m)) (sym same)
     (tried_at engine m c.args.region t c.begin_again.new.active c.release_all.new.self u begun
     c.release_all.ensures.lists c.release_all.ensures.regions)
-
--- ---- want of memory, and what stays
-
-pub returns-in_err-program-clause-again : goal.returns-in_err-program-clause-again
-returns-in_err-program-clause-again c m t u = IfOk-from_err c.from_residual.result _ c.from_residual.ensures.0
-
-pub returns-in_err-program-clause-err : goal.returns-in_err-program-clause-err
-returns-in_err-program-clause-err c m t u = on_err c.from_residual.result (u)
-
-pub returns-in_err-program-clause-rules : goal.returns-in_err-program-clause-rules
-returns-in_err-program-clause-rules c = refl
-
-pub returns-in_err-program-clause-defs : goal.returns-in_err-program-clause-defs
-returns-in_err-program-clause-defs c = refl
-
-pub returns-in_err-program-clause-scripts : goal.returns-in_err-program-clause-scripts
-returns-in_err-program-clause-scripts c = refl
-
-pub returns-in_err-program-clause-gate : goal.returns-in_err-program-clause-gate
-returns-in_err-program-clause-gate c = refl
-
-pub returns-in_err-program-clause-count : goal.returns-in_err-program-clause-count
-returns-in_err-program-clause-count c = refl
-
-pub returns-clause-err : goal.returns-clause-err
-returns-clause-err c m t u = tt

@@ -1,4 +1,3 @@
-use Rattle.std.proofs.lemmas.Result.{IfOk-from_err}
 use Rattle.std.proofs.Common.{◌≡◌, ◌∙◌, ap, refl, subst, arith, ℕ, ◌+◌, ◌<◌, length, Some, slice_get}
 use Rattle.fp_core.specs.declared.engine.Region.TheVariants as regions
 use Rattle.fp_core.specs.inside.Rounding.{StoppedAmong, TookTurns, turns_of}
@@ -46,41 +45,3 @@ returns-clause-turned g c m s =
     let all : c.loop-done.done ≡ length c.args.self.now.defs.now.regions
     = omega (arith, regions_long c.args.self.now m s) in
     subst (λ (n : ℕ). TookTurns (turns_of n) m c.loop-done.self) all (c.loop-done.invariant.took m s)
-
--- ---- what stays
-
-pub returns-in_err-turn-clause-turned : goal.returns-in_err-turn-clause-turned
-returns-in_err-turn-clause-turned g c m s = IfOk-from_err c.from_residual.result _ c.from_residual.ensures.0
-
-pub returns-in_err-turn-clause-rules : goal.returns-in_err-turn-clause-rules
-returns-in_err-turn-clause-rules g c = c.turn.ensures.rules ∙ c.loop-done.invariant.rules
-
-pub returns-in_err-turn-clause-defs : goal.returns-in_err-turn-clause-defs
-returns-in_err-turn-clause-defs g c = c.turn.ensures.defs ∙ c.loop-done.invariant.defs
-
-pub returns-in_err-turn-clause-scripts : goal.returns-in_err-turn-clause-scripts
-returns-in_err-turn-clause-scripts g c = c.turn.ensures.scripts ∙ c.loop-done.invariant.scripts
-
-pub returns-in_err-turn-clause-gate : goal.returns-in_err-turn-clause-gate
-returns-in_err-turn-clause-gate g c = c.turn.ensures.gate ∙ c.loop-done.invariant.gate
-
-pub returns-in_err-turn-clause-count : goal.returns-in_err-turn-clause-count
-returns-in_err-turn-clause-count g c = c.turn.ensures.count ∙ c.loop-done.invariant.count
-
-pub returns-clause-stopped : goal.returns-clause-stopped
-returns-clause-stopped g c m s = tt
-
-pub returns-clause-rules : goal.returns-clause-rules
-returns-clause-rules g c = c.loop-done.invariant.rules
-
-pub returns-clause-defs : goal.returns-clause-defs
-returns-clause-defs g c = c.loop-done.invariant.defs
-
-pub returns-clause-scripts : goal.returns-clause-scripts
-returns-clause-scripts g c = c.loop-done.invariant.scripts
-
-pub returns-clause-gate : goal.returns-clause-gate
-returns-clause-gate g c = c.loop-done.invariant.gate
-
-pub returns-clause-count : goal.returns-clause-count
-returns-clause-count g c = c.loop-done.invariant.count

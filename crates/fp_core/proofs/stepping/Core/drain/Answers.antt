@@ -1,9 +1,4 @@
-use Rattle.fp_core.proofs.Exits.{err_of_stop}
-use Rattle.fp_core.specs.Standing.{IsCausedBySite, IsCausedBySource, number_of}
-use Rattle.std.proofs.lemmas.Result.{IfOk-from_err}
-use Rattle.std.specs.Prelude.{option_map}
-use Rattle.fp_core.specs.declared.stop.Stop.TheVariants as stops
-use Rattle.std.proofs.Common.{refl, ◌∙◌, ap, subst, arith, ◌+◌, ◌-◌, Bool, sym, ℕ}
+use Rattle.std.proofs.Common.{refl, ◌∙◌, ap, subst, arith, ◌+◌, ◌-◌, Bool}
 use Rattle.fp_model.specs.Machine.{Machine}
 use Rattle.fp_source.specs.declared.part.Part.TheVariants as part
 use Rattle.fp_core.specs.Draining.{DrainStopped}
@@ -20,6 +15,8 @@ use Rattle.fp_core.proofs.FrontLemmas.{fronts_none, fronts_on, holds_none, holds
 use Rattle.fp_core.proofs.SparingLemmas.{spares_none, spares_on}
 use Rattle.fp_core.proofs.Rounds.{if_err_from}
 use Rattle.fp_core.proofs.stepping.Core.drain.Goals as goal
+
+-- ---- no round yet
 
 pub loop-done-init : goal.loop-done-init
 loop-done-init g c =
@@ -51,6 +48,73 @@ loop-done-init g c =
           part.Messages c.args.source.now;
     }
 
+-- ---- a stop
+
+pub returns-in_err-round-clause-stopped : goal.returns-in_err-round-clause-stopped
+returns-in_err-round-clause-stopped g c origin m told tells beside reached =
+    let core = c.args.self.now in
+    let stop = c.in_err-round.field-0.0 in
+    let i = c.loop-done.invariant in
+    let told1 = i.site.still_told told in
+    let come = i.come origin m told tells beside in
+    if_err_from (DrainStopped origin core.engine.defs.now (rules_in core.engine) m core.lines
+    (g.T.Site.disk c.args.site.now) (g.T.Site.disk c.round.new.site)) c.from_residual.result stop
+    c.from_residual.ensures.1
+    (stopped_on come i.rules (ap (λ d. d.now) i.defs) (g.T.Site.disk c.round.new.site) stop
+    (c.in_err-round.ensures.stopped origin come.after told1 (i.source.continued.still_told tells) come.beside))
+
+pub returns-in_err-round-clause-moments : goal.returns-in_err-round-clause-moments
+returns-in_err-round-clause-moments g c origin m told tells beside reached =
+    let i = c.loop-done.invariant in
+    let told1 = i.site.still_told told in
+    let come = i.come origin m told tells beside in
+    moments_on come i.rules (ap (λ d. d.now) i.defs) (g.T.Site.disk c.round.new.site)
+    (g.met.T.Site.lawful c.loop-done.site told1) (i.moments origin m told tells beside)
+    (c.round.ensures.moments origin come.after told1 (i.source.continued.still_told tells) come.beside)
+
+-- ---- the end
+
+pub returns-then-not-branch-clause-reached : goal.returns-then-not-branch-clause-reached
+returns-then-not-branch-clause-reached g c =
+    let mid = c.loop-done.self in
+    let new = c.round.new.self in
+    let needs = c.loop-done.invariant.needs in
+    let went = c.in_ok-round.ensures.went needs.m needs.reached.stands in
+    let m : Machine = record needs.m { lines = went.0 } in
+    let done = subst (λ (b : Bool). Went mid.engine.defs.now (rules_in mid.engine) m mid.lines new.lines new.engine b)
+    c.if-not-branch.true went.1 in (
+      m,
+      with_lines_reached mid.engine new.engine needs.m went.0 c.round.ensures.rules
+          (ap (λ d. d.now) c.round.ensures.defs) needs.reached done.1,
+    )
+
+pub returns-then-not-branch-clause-moments : goal.returns-then-not-branch-clause-moments
+returns-then-not-branch-clause-moments g c origin m told tells beside reached =
+    let i = c.loop-done.invariant in
+    let told1 = i.site.still_told told in
+    let come = i.come origin m told tells beside in
+    moments_on come i.rules (ap (λ d. d.now) i.defs) (g.T.Site.disk c.round.new.site)
+    (g.met.T.Site.lawful c.loop-done.site told1) (i.moments origin m told tells beside)
+    (c.round.ensures.moments origin come.after told1 (i.source.continued.still_told tells) come.beside)
+
+pub returns-then-not-branch-clause-drained : goal.returns-then-not-branch-clause-drained
+returns-then-not-branch-clause-drained g c origin m told tells beside reached =
+    let core = c.args.self.now in
+    let new = c.round.new.self in
+    let disk = g.T.Site.disk c.args.site.now in
+    let disk2 = g.T.Site.disk c.round.new.site in
+    let left2 = g.S.Source.left c.round.new.source part.Messages in
+    let i = c.loop-done.invariant in
+    let told1 = i.site.still_told told in
+    let come = i.come origin m told tells beside in
+    let came = came_on come i.rules (ap (λ d. d.now) i.defs) disk2
+    (c.in_ok-round.ensures.beside origin come.after told1 (i.source.continued.still_told tells) come.beside) in
+    drained_by origin core.engine.defs.now (rules_in core.engine) m disk disk2 core.lines new.lines left2 new.engine
+    (ap (λ d. d.now) (c.round.ensures.defs ∙ i.defs)) (c.round.ensures.rules ∙ i.rules) came.come
+    (came.drained c.if-not-branch.true)
+
+-- ---- a round more
+
 pub loop-done-preserved : goal.loop-done-preserved
 loop-done-preserved g c =
     let core = c.args.self.now in
@@ -69,8 +133,8 @@ loop-done-preserved g c =
       come = λ origin m told tells beside.
           let come = i.come origin m told tells beside in
           (came_on come i.rules (ap (λ d. d.now) i.defs) (g.T.Site.disk c.round.new.site)
-          (c.in_ok-round.ensures.beside origin come.after (i.site.still_told told) (i.source.continued.still_told
-          tells) come.beside)).come;
+          (c.in_ok-round.ensures.beside origin come.after (i.site.still_told told) (i.source.continued.still_told tells)
+          come.beside)).come;
       moments = λ origin m told tells beside.
           let told1 = i.site.still_told told in
           let come = i.come origin m told tells beside in
@@ -109,150 +173,39 @@ loop-done-preserved g c =
           c.args.source.now c.loop-done.source c.round.new.source i.source c.round.ensures.source;
     }
 
-pub returns-in_err-round : goal.returns-in_err-round
-returns-in_err-round g c = record {
-  stopped = λ origin m told tells beside reached.
-      let core = c.args.self.now in
-      let stop = c.in_err-round.field-0.0 in
-      let i = c.loop-done.invariant in
-      let told1 = i.site.still_told told in
-      let come = i.come origin m told tells beside in
-      if_err_from (DrainStopped origin core.engine.defs.now (rules_in core.engine) m core.lines
-      (g.T.Site.disk c.args.site.now) (g.T.Site.disk c.round.new.site)) c.from_residual.result stop
-      c.from_residual.ensures.1
-      (stopped_on come i.rules (ap (λ d. d.now) i.defs) (g.T.Site.disk c.round.new.site) stop
-      (c.in_err-round.ensures.stopped origin come.after told1 (i.source.continued.still_told tells) come.beside));
-  moments = λ origin m told tells beside reached.
-      let i = c.loop-done.invariant in
-      let told1 = i.site.still_told told in
-      let come = i.come origin m told tells beside in
-      moments_on come i.rules (ap (λ d. d.now) i.defs) (g.T.Site.disk c.round.new.site)
-      (g.met.T.Site.lawful c.loop-done.site told1) (i.moments origin m told tells beside)
-      (c.round.ensures.moments origin come.after told1 (i.source.continued.still_told tells) come.beside);
-  spares = λ told.
-      let told1 = c.loop-done.invariant.site.still_told told in
-      spares_on IsLogSet (g.T.Site.disk c.args.site.now) (g.T.Site.disk c.loop-done.site) (g.T.Site.disk
-      c.round.new.site) (g.met.T.Site.lawful c.loop-done.site told1) (c.loop-done.invariant.spares told)
-      (c.round.ensures.spares told1);
-  front = λ told.
-      let i = c.loop-done.invariant in
-      fronts_on (g.T.Site.disk c.args.site.now) (g.T.Site.disk c.loop-done.site) (g.T.Site.disk c.round.new.site)
-      c.args.self.now.engine.log.gate c.loop-done.self.engine.log.gate (i.front told) (i.front_on told)
-      (c.round.ensures.front (i.site.still_told told));
-  reached = IfOk-from_err c.from_residual.result _ c.from_residual.ensures.0;
-  drained = λ origin m told tells beside reached. IfOk-from_err c.from_residual.result _ c.from_residual.ensures.0;
-  read = λ tells. IfOk-from_err c.from_residual.result _ c.from_residual.ensures.0;
-  fair = λ tells. IfOk-from_err c.from_residual.result _ c.from_residual.ensures.0;
-  site_cause =
-      if_err_from (IsCausedBySite (g.T.Site.faults c.args.site.now) (g.T.Site.faults c.round.new.site))
-      c.from_residual.result c.in_err-round.field-0.0 c.from_residual.ensures.1 (subst (λ (n : ℕ). IsCausedBySite n
-      (g.T.Site.faults c.round.new.site) c.in_err-round.field-0.0) c.loop-done.invariant.site_calm
-      c.in_err-round.ensures.site_cause);
-  source_cause =
-      if_err_from (IsCausedBySource (g.S.Source.faults c.args.source.now) (g.S.Source.faults c.round.new.source))
-      c.from_residual.result c.in_err-round.field-0.0 c.from_residual.ensures.1 (subst (λ (n : ℕ). IsCausedBySource n
-      (g.S.Source.faults c.round.new.source) c.in_err-round.field-0.0) c.loop-done.invariant.source_calm
-      c.in_err-round.ensures.source_cause);
-  site_calm = IfOk-from_err c.from_residual.result _ c.from_residual.ensures.0;
-  source_calm = IfOk-from_err c.from_residual.result _ c.from_residual.ensures.0;
-  line = λ tells n is.
-      sym (ap (option_map number_of) (c.loop-done.invariant.fair tells)) ∙ c.in_err-round.ensures.line
-      (c.loop-done.invariant.source.continued.still_told tells) n (err_of_stop c.from_residual.result
-      c.in_err-round.field-0.0 (stops.LineFault n) c.from_residual.ensures.1 is);
-  front_on = λ told. IfOk-from_err c.from_residual.result _ c.from_residual.ensures.0;
-  rules = c.round.ensures.rules ∙ c.loop-done.invariant.rules;
-  defs = c.round.ensures.defs ∙ c.loop-done.invariant.defs;
-  scripts = c.round.ensures.scripts ∙ c.loop-done.invariant.scripts;
-  routed =
-      ap (λ r. r.now.kind) (c.round.ensures.router ∙ c.loop-done.invariant.router) ∙ c.requires.routed ∙ ap (λ d.
-      d.now.router) (sym (c.round.ensures.defs ∙ c.loop-done.invariant.defs));
-  reads =
-      reads_nothing_both (g.T.Site.tells_reads c.args.site.now) (g.T.Site.tells_reads c.loop-done.site)
-      (g.T.Site.tells_reads c.round.new.site) (g.T.Site.bytes_read c.args.site.now) (g.T.Site.bytes_read
-      c.loop-done.site) (g.T.Site.bytes_read c.round.new.site) c.loop-done.invariant.reads c.round.ensures.reads;
-  site =
-      continued_both g.T.Site.told g.T.Site.faults g.T.Site.holds g.T.Site.keeps c.args.site.now c.loop-done.site
-      c.round.new.site c.loop-done.invariant.site c.round.ensures.site;
-  source =
-      reads_joined g.S.Source.told g.S.Source.left g.S.Source.faults g.S.Source.holds g.S.Source.keeps part.Messages
-      c.args.source.now c.loop-done.source c.round.new.source c.loop-done.invariant.source c.round.ensures.source;
-}
+-- ---- other data sets
 
-pub returns-then-not-branch : goal.returns-then-not-branch
-returns-then-not-branch g c = record {
-  reached =
-      let mid = c.loop-done.self in
-      let new = c.round.new.self in
-      let needs = c.loop-done.invariant.needs in
-      let went = c.in_ok-round.ensures.went needs.m needs.reached.stands in
-      let m : Machine = record needs.m { lines = went.0 } in
-      let done = subst (λ (b : Bool). Went mid.engine.defs.now (rules_in mid.engine) m mid.lines new.lines new.engine
-      b) c.if-not-branch.true went.1 in (
-        m,
-        with_lines_reached mid.engine new.engine needs.m went.0 c.round.ensures.rules
-            (ap (λ d. d.now) c.round.ensures.defs) needs.reached done.1,
-      );
-  moments = λ origin m told tells beside reached.
-      let i = c.loop-done.invariant in
-      let told1 = i.site.still_told told in
-      let come = i.come origin m told tells beside in
-      moments_on come i.rules (ap (λ d. d.now) i.defs) (g.T.Site.disk c.round.new.site)
-      (g.met.T.Site.lawful c.loop-done.site told1) (i.moments origin m told tells beside)
-      (c.round.ensures.moments origin come.after told1 (i.source.continued.still_told tells) come.beside);
-  drained = λ origin m told tells beside reached.
-      let core = c.args.self.now in
-      let new = c.round.new.self in
-      let disk = g.T.Site.disk c.args.site.now in
-      let disk2 = g.T.Site.disk c.round.new.site in
-      let left2 = g.S.Source.left c.round.new.source part.Messages in
-      let i = c.loop-done.invariant in
-      let told1 = i.site.still_told told in
-      let come = i.come origin m told tells beside in
-      let came = came_on come i.rules (ap (λ d. d.now) i.defs) disk2
-      (c.in_ok-round.ensures.beside origin come.after told1 (i.source.continued.still_told tells) come.beside) in
-      drained_by origin core.engine.defs.now (rules_in core.engine) m disk disk2 core.lines new.lines left2 new.engine
-      (ap (λ d. d.now) (c.round.ensures.defs ∙ i.defs)) (c.round.ensures.rules ∙ i.rules) came.come
-      (came.drained c.if-not-branch.true);
-  spares = λ told.
-      let told1 = c.loop-done.invariant.site.still_told told in
-      spares_on IsLogSet (g.T.Site.disk c.args.site.now) (g.T.Site.disk c.loop-done.site) (g.T.Site.disk
-      c.round.new.site) (g.met.T.Site.lawful c.loop-done.site told1) (c.loop-done.invariant.spares told)
-      (c.round.ensures.spares told1);
-  front = λ told.
-      let i = c.loop-done.invariant in
-      fronts_on (g.T.Site.disk c.args.site.now) (g.T.Site.disk c.loop-done.site) (g.T.Site.disk c.round.new.site)
-      c.args.self.now.engine.log.gate c.loop-done.self.engine.log.gate (i.front told) (i.front_on told)
-      (c.round.ensures.front (i.site.still_told told));
-  front_on = λ told.
-      let i = c.loop-done.invariant in
-      holds_on (g.T.Site.disk c.args.site.now) (g.T.Site.disk c.loop-done.site) (g.T.Site.disk c.round.new.site)
-      c.args.self.now.engine.log.gate c.loop-done.self.engine.log.gate c.round.new.self.engine.log.gate
-      (i.front_on told) (c.in_ok-round.ensures.front_on (i.site.still_told told));
-  read = λ tells.
-      c.in_ok-round.ensures.ended (c.loop-done.invariant.source.continued.still_told tells) c.if-not-branch.true;
-  stopped = λ origin m told tells beside reached. tt;
-  fair = λ tells.
-      c.in_ok-round.ensures.fair (c.loop-done.invariant.source.continued.still_told tells) ∙ c.loop-done.invariant.fair
-      tells;
-  site_cause = tt;
-  source_cause = tt;
-  site_calm = c.in_ok-round.ensures.site_calm ∙ c.loop-done.invariant.site_calm;
-  source_calm = c.in_ok-round.ensures.source_calm ∙ c.loop-done.invariant.source_calm;
-  line = λ tells n is. absurd cc;
-  rules = c.round.ensures.rules ∙ c.loop-done.invariant.rules;
-  defs = c.round.ensures.defs ∙ c.loop-done.invariant.defs;
-  scripts = c.round.ensures.scripts ∙ c.loop-done.invariant.scripts;
-  routed =
-      ap (λ r. r.now.kind) (c.round.ensures.router ∙ c.loop-done.invariant.router) ∙ c.requires.routed ∙ ap (λ d.
-      d.now.router) (sym (c.round.ensures.defs ∙ c.loop-done.invariant.defs));
-  reads =
-      reads_nothing_both (g.T.Site.tells_reads c.args.site.now) (g.T.Site.tells_reads c.loop-done.site)
-      (g.T.Site.tells_reads c.round.new.site) (g.T.Site.bytes_read c.args.site.now) (g.T.Site.bytes_read
-      c.loop-done.site) (g.T.Site.bytes_read c.round.new.site) c.loop-done.invariant.reads c.round.ensures.reads;
-  site =
-      continued_both g.T.Site.told g.T.Site.faults g.T.Site.holds g.T.Site.keeps c.args.site.now c.loop-done.site
-      c.round.new.site c.loop-done.invariant.site c.round.ensures.site;
-  source =
-      reads_joined g.S.Source.told g.S.Source.left g.S.Source.faults g.S.Source.holds g.S.Source.keeps part.Messages
-      c.args.source.now c.loop-done.source c.round.new.source c.loop-done.invariant.source c.round.ensures.source;
-}
+pub returns-in_err-round-clause-spares : goal.returns-in_err-round-clause-spares
+returns-in_err-round-clause-spares g c told =
+    let told1 = c.loop-done.invariant.site.still_told told in
+    spares_on IsLogSet (g.T.Site.disk c.args.site.now) (g.T.Site.disk c.loop-done.site) (g.T.Site.disk c.round.new.site)
+    (g.met.T.Site.lawful c.loop-done.site told1) (c.loop-done.invariant.spares told) (c.round.ensures.spares told1)
+
+pub returns-then-not-branch-clause-spares : goal.returns-then-not-branch-clause-spares
+returns-then-not-branch-clause-spares g c told =
+    let told1 = c.loop-done.invariant.site.still_told told in
+    spares_on IsLogSet (g.T.Site.disk c.args.site.now) (g.T.Site.disk c.loop-done.site) (g.T.Site.disk c.round.new.site)
+    (g.met.T.Site.lawful c.loop-done.site told1) (c.loop-done.invariant.spares told) (c.round.ensures.spares told1)
+
+-- ---- what stands in front of the gate
+
+pub returns-in_err-round-clause-front : goal.returns-in_err-round-clause-front
+returns-in_err-round-clause-front g c told =
+    let i = c.loop-done.invariant in
+    fronts_on (g.T.Site.disk c.args.site.now) (g.T.Site.disk c.loop-done.site) (g.T.Site.disk c.round.new.site)
+    c.args.self.now.engine.log.gate c.loop-done.self.engine.log.gate (i.front told) (i.front_on told)
+    (c.round.ensures.front (i.site.still_told told))
+
+pub returns-then-not-branch-clause-front : goal.returns-then-not-branch-clause-front
+returns-then-not-branch-clause-front g c told =
+    let i = c.loop-done.invariant in
+    fronts_on (g.T.Site.disk c.args.site.now) (g.T.Site.disk c.loop-done.site) (g.T.Site.disk c.round.new.site)
+    c.args.self.now.engine.log.gate c.loop-done.self.engine.log.gate (i.front told) (i.front_on told)
+    (c.round.ensures.front (i.site.still_told told))
+
+pub returns-then-not-branch-clause-front_on : goal.returns-then-not-branch-clause-front_on
+returns-then-not-branch-clause-front_on g c told =
+    let i = c.loop-done.invariant in
+    holds_on (g.T.Site.disk c.args.site.now) (g.T.Site.disk c.loop-done.site) (g.T.Site.disk c.round.new.site)
+    c.args.self.now.engine.log.gate c.loop-done.self.engine.log.gate c.round.new.self.engine.log.gate
+    (i.front_on told) (c.in_ok-round.ensures.front_on (i.site.still_told told))
