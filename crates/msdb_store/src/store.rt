@@ -334,6 +334,8 @@ impl MsdbStore {
         ensures spare { (defs : ListOf DefOf) → IsOf defs self.old
             → IsStaged defs self.old.msdbs (record { items = items.now; inserts = 0 })
             → self.old.spare ≤ self.new.spare }
+        ensures few { AllByRecursion (λ msdb. length msdb.segments < 2 ^ 32) self.old.msdbs
+            → AllByRecursion (λ msdb. length msdb.segments < 2 ^ 32) self.new.msdbs }
     {
         for item in items.as_slice() {
             // It adds no segment, so it takes no memory and is done.

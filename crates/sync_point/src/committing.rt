@@ -131,6 +131,8 @@ fn publish(
         → OnOk result (msdbs.new.msdbs ≡ with_items defs msdbs.old.msdbs staged.items) }
     ensures of { (defs : ListOf MsdbDef) → IsOf defs msdbs.old → IsStaged defs msdbs.old.msdbs staged
         → IsOf defs msdbs.new }
+    ensures few { AllByRecursion (λ msdb. length msdb.segments < 2 ^ 32) msdbs.old.msdbs
+        → AllByRecursion (λ msdb. length msdb.segments < 2 ^ 32) msdbs.new.msdbs }
     ensures unsealed { OnOk result (log.new.unsealed ≡ log.old.unsealed ++ entry.now ∷ []) }
     ensures spare { log.old.spare ≤ log.new.spare }
     ensures sealed { log.new.sealed ≡ log.old.sealed }
@@ -157,6 +159,8 @@ fn publish_over(msdbs: &mut MsdbStore, log: &mut Log, entry: &Entry) -> Result<(
         → OnOk result (msdbs.new.msdbs ≡ with_items defs msdbs.old.msdbs entry.now.items) }
     ensures of { (defs : ListOf MsdbDef) → IsOf defs msdbs.old
         → IsStaged defs msdbs.old.msdbs (record { items = entry.now.items; inserts = 0 }) → IsOf defs msdbs.new }
+    ensures few { AllByRecursion (λ msdb. length msdb.segments < 2 ^ 32) msdbs.old.msdbs
+        → AllByRecursion (λ msdb. length msdb.segments < 2 ^ 32) msdbs.new.msdbs }
     ensures unsealed { OnOk result (log.new.unsealed ≡ log.old.unsealed ++ entry.now ∷ []) }
     ensures spare { log.old.spare ≤ log.new.spare }
     ensures sealed { log.new.sealed ≡ log.old.sealed }
@@ -190,6 +194,8 @@ fn enter(
         → OnOk result (msdbs.new.msdbs ≡ with_items defs msdbs.old.msdbs staged.items) }
     ensures of { (defs : ListOf MsdbDef) → IsOf defs msdbs.old → IsStaged defs msdbs.old.msdbs staged
         → IsOf defs msdbs.new }
+    ensures few { AllByRecursion (λ msdb. length msdb.segments < 2 ^ 32) msdbs.old.msdbs
+        → AllByRecursion (λ msdb. length msdb.segments < 2 ^ 32) msdbs.new.msdbs }
     ensures spare { log.old.spare ≤ log.new.spare }
     ensures sealed { log.new.sealed ≡ log.old.sealed }
     ensures gate { log.new.gate ≡ log.old.gate }
@@ -242,8 +248,11 @@ pub fn commit(draft: Draft, msdbs: &mut MsdbStore, log: &mut Log) -> Result<Entr
     ensures segments { OnErr result (msdbs.new.msdbs ≡ msdbs.old.msdbs) }
     ensures waiting { OnErr result (log.new.unsealed ≡ log.old.unsealed) }
 
-    // Whatever the answer is, the store is of its definitions, and the log has as much room as before.
+    // Whatever the answer is, the store is of its definitions, no database has 2^32 segments that had fewer, and the log
+    // has as much room as before.
     ensures of { (defs : ListOf MsdbDef) → CanSettle defs msdbs.old draft.deferred → IsOf defs msdbs.new }
+    ensures few { AllByRecursion (λ msdb. length msdb.segments < 2 ^ 32) msdbs.old.msdbs
+        → AllByRecursion (λ msdb. length msdb.segments < 2 ^ 32) msdbs.new.msdbs }
     ensures spare { log.old.spare ≤ log.new.spare }
     ensures sealed { log.new.sealed ≡ log.old.sealed }
     ensures gate { log.new.gate ≡ log.old.gate }

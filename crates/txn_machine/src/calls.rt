@@ -1,5 +1,5 @@
 //! Calls: what the statements that make them ask.
-ghost use Rattle.std.specs.Prelude.{◌≡◌, ◌≢◌, ◌<◌, ◌≤◌, [], List, IfErr, IfOk, MatchOption, None, OnOk, Some, length, option_map};
+ghost use Rattle.std.specs.Prelude.{◌≡◌, ◌<◌, ◌≤◌, [], List, IfErr, IfOk, MatchOption, None, OnOk, Some, length, option_map};
 ghost use Rattle.std.specs.List.{AllByRecursion};
 ghost use Rattle.fp_model.specs.declared.calls.Call.TheVariants as call;
 ghost use Rattle.fp_model.specs.declared.calls.Message.{Message as MessageOf};
@@ -8,7 +8,6 @@ ghost use Rattle.fp_model.specs.Fsas.{Fsa as Argument, IsFsa, list_text};
 ghost use Rattle.fp_model.specs.Operands.{filled, fsas_given, fld_call, get_call, isrt_call, new_type, repl_call, shown_on, ssa_of, ssas_of};
 ghost use Rattle.fp_model.specs.Values.{layout_of};
 ghost use Rattle.fld_calls.specs.Forms.{lent_form_of};
-ghost use Rattle.txn_values.specs.declared.stop.Stop.TheVariants.{Memory};
 ghost use Rattle.txn_values.specs.Giving.{Gives};
 ghost use Rattle.txn_values.specs.inside.Giving.{PutsIn};
 ghost use Rattle.txn_machine.specs.inside.Filling.{fsa_given, with_fsa_text, with_value};
@@ -41,8 +40,8 @@ fn new_layout<'a>(defs: &'a Defs, db: u8, ssas: &[SsaText]) -> Result<Layout<'a>
     ensures ok { (message : MessageOf) → IfOk result
         (λ layout. layout_of defs.now db (new_type defs.now message ssas.now)
         ≡ Some (record { fields = layout.fields.now; has_key = layout.has_key })) }
-    ensures err { (message : MessageOf) → IfErr result (λ e. e ≢ Memory
-        → layout_of defs.now db (new_type defs.now message ssas.now) ≡ None) }
+    ensures none { (message : MessageOf)
+        → IfErr result (λ e. layout_of defs.now db (new_type defs.now message ssas.now) ≡ None) }
 {
     layout_of(defs, db, new_type(ssas))
 }

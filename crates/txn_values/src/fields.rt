@@ -1,5 +1,5 @@
 //! Segments and their fields: what a field holds as a text, and what a text is as the bytes of a field.
-ghost use Rattle.std.specs.Prelude.{◌≡◌, ◌≢◌, ◌+◌, ◌≤◌, ◌++◌, [], IfErr, IfOk, None, Some, drop, length, replicate, take};
+ghost use Rattle.std.specs.Prelude.{◌≡◌, ◌+◌, ◌≤◌, ◌++◌, [], IfErr, IfOk, None, Some, drop, length, replicate, take};
 ghost use Rattle.fp_model.specs.Fsas as fsas;
 ghost use Rattle.fp_model.specs.Fsas.{field_bytes, field_of, with_field};
 ghost use Rattle.fp_model.specs.Numbers.{bytes_of, number};
@@ -7,7 +7,7 @@ ghost use Rattle.fp_model.specs.Values.{empty_field, empty_segment, fitted, fitt
 ghost use Rattle.fp_model.specs.Texts.{padded};
 ghost use Rattle.txn_values.specs.Fields.{field_filled};
 ghost use Rattle.txn_values.specs.Giving.{Gives, GivesAs};
-ghost use Rattle.txn_values.specs.declared.stop.Stop.TheVariants.{Memory, NoValue};
+ghost use Rattle.txn_values.specs.declared.stop.Stop.TheVariants.{NoValue};
 ghost use Rattle.txn_values.specs.inside.Giving.{PutsIn};
 ghost use Rattle.txn_values.specs.Lending.{bytes_in};
 
@@ -32,7 +32,7 @@ pub struct Layout<'a> {
 pub fn layout_of(defs: &Defs, db: u8, type_number: u8) -> Result<Layout<'_>, Stop>
     ensures ok { IfOk result (λ layout. layout_of defs.now db type_number
         ≡ Some (record { fields = layout.fields.now; has_key = layout.has_key })) }
-    ensures err { IfErr result (λ e. e ≢ Memory → layout_of defs.now db type_number ≡ None) }
+    ensures none { IfErr result (λ e. layout_of defs.now db type_number ≡ None) }
     ensures no_value { IfErr result (λ e. e ≡ NoValue) }
 {
     let db = usize::from(db);

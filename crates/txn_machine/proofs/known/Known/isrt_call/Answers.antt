@@ -4,7 +4,7 @@ use Rattle.txn_machine.proofs.known.Known.isrt_call.Goals as goal
 
 pub returns-in_err-layout : goal.returns-in_err-layout
 returns-in_err-layout c =
-    let none = c.in_err-layout.ensures.err c.args.message.now in grind (arith, common_steps, none)
+    let none = c.in_err-layout.ensures.none c.args.message.now in grind (arith, common_steps, none)
 
 pub returns-in_err-segment : goal.returns-in_err-segment
 returns-in_err-segment c =
