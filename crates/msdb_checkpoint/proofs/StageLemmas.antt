@@ -1,9 +1,10 @@
 -- What a gated write leaves, as a checkpoint that is old, closed or whole.
-use Rattle.std.proofs.Common.{◌≡◌, inl, inr, ℕ, ◌+◌, ◌-◌, ◌<◌, ◌≤◌, List, ◌∷◌, ◌++◌, length, min, take, drop, Option, Some, sym, ◌∙◌, ap, subst, arith}
+use Rattle.std.proofs.Common.{◌≡◌, inl, inr, ℕ, ◌+◌, ◌-◌, ◌<◌, ◌≤◌, List, ◌∷◌, ◌++◌, length, max, min, take, drop, Option, Some, sym, ◌∙◌, ap, subst, arith}
 use Rattle.std.specs.Prelude.{slice_index}
 use Rattle.std.proofs.lemmas.Bool.{cases_eq, cases_lt}
 use Rattle.std.proofs.lemmas.List.{drop-take, take-append-drop, take-take, take_all, length-append, length-drop, length-take}
-use Rattle.fp_site.specs.Disk.{Disk, Settles}
+use Rattle.fp_site.specs.Disk.{Disk, Settles, written}
+use Rattle.fp_site.specs.Written.{length-written}
 use Rattle.gated_write.specs.Gates.{IsClosed, IsOpened, IsShut, IsStaged, IsUnopened, IsWriting}
 use Rattle.gated_write.proofs.Bodies.{begins}
 use Rattle.fp_site.specs.Moments.{Through}
@@ -70,6 +71,18 @@ whole_body old body set disk count le writing = subst (λ b. IsWriting old 0 b s
 
 pub sure_now : (old body : List ℕ) (set : ℕ) (disk : Disk) → IsOpened old 0 body set disk → IsSure body set disk
 sure_now old body set disk opened = record { durable = opened.durable; rest = opened.rest; is = opened.behind }
+
+-- closing the gate lengthens by no more than the gate
+pub shut_within : (body old new : List ℕ) → 0 < length new → drop 1 new ≡ drop 1 old
+    → length new ≤ max (length old) (1 + length body)
+shut_within body old new stands rest =
+    omega (arith, stands, ap length rest, length-drop 1 new, length-drop 1 old)
+
+-- and so does a write up to the end of the body
+pub written_within : (body old new bytes : List ℕ) (at : ℕ) → at + length bytes ≤ 1 + length body
+    → new ≡ written old at bytes → length new ≤ max (length old) (1 + length body)
+written_within body old new bytes at le is =
+    let wrote = (length-written old at bytes).1 in omega (arith, le, ap length is, wrote)
 
 -- ---- in turn
 

@@ -1,5 +1,5 @@
 -- A checkpoint that is written in steps, and what its data set is at every moment of it.
-use Rattle.std.specs.Prelude.{◌≡◌, ◌⊎◌, ⊤, ℕ, ◌+◌, ◌-◌, ◌/◌, ◌^◌, ◌<◌, ◌≤◌, List, ◌∷◌, ◌++◌, length, drop, take, Option, Some, None}
+use Rattle.std.specs.Prelude.{◌≡◌, ◌⊎◌, ⊤, ℕ, ◌+◌, ◌-◌, ◌/◌, ◌^◌, ◌<◌, ◌≤◌, max, List, ◌∷◌, ◌++◌, length, drop, take, Option, Some, None}
 use Rattle.fp_site.specs.Disk.{Disk, IsDurable, Settles, written}
 use Rattle.gated_write.specs.Gates.{IsClosed, IsReady, IsWriting}
 use Rattle.msdb_checkpoint.specs.declared.stages.Stage.{Stage}
@@ -35,6 +35,10 @@ GoesFrom body set disk Synced = IsAt body set disk Synced
 abbrev pub WritesPiece : List ℕ → ℕ → ℕ → Disk → Disk → Type 0
 WritesPiece body count set old new =
     new.contents set ≡ written (old.contents set) (1 + count) (take 65536 (drop count body))
+
+-- The data set is no longer than it was, or than a gate and the body are.
+abbrev pub IsNoLonger : List ℕ → ℕ → Disk → Disk → Type 0
+IsNoLonger body set old new = length (new.contents set) ≤ max (length (old.contents set)) (1 + length body)
 
 -- how many pieces so many bytes have
 abbrev pub pieces : ℕ → ℕ

@@ -8,7 +8,7 @@ ghost use Rattle.fp_lists.specs.Continued.{IsContinued};
 ghost use Rattle.fp_lists.specs.Faults.{Counts};
 ghost use Rattle.gated_write.specs.Gates.{ReadsOnly};
 ghost use Rattle.msdb_checkpoint.specs.Given.{body_with};
-ghost use Rattle.msdb_checkpoint.specs.Steps.{GoesOn, IsOldClosedOrWhole, IsSure, IsSureNow, OnlyStage, StandsOn, Turn, WritesPiece, other_set, turns_left};
+ghost use Rattle.msdb_checkpoint.specs.Steps.{GoesOn, IsNoLonger, IsOldClosedOrWhole, IsSure, IsSureNow, OnlyStage, StandsOn, Turn, WritesPiece, other_set, turns_left};
 ghost use Rattle.msdb_checkpoint.specs.declared.fault.CkptFault.TheVariants as faults;
 ghost use Rattle.msdb_checkpoint.specs.declared.stages.Stage.TheVariants as stages;
 ghost use Rattle.msdb_checkpoint.specs.declared.stages.UnderWay.{UnderWay as UnderWayOf};
@@ -151,6 +151,10 @@ impl Checkpoints {
             → u.stage ≡ stages.Written count → count < length u.body
             → OnOk result (WritesPiece u.body count (other_set self.old.set) (S.disk site.old) (S.disk site.new)) }
 
+        // At Ok the data set is no longer than it was, or than the checkpoint is.
+        ensures no_longer { (u : UnderWayOf) → S.told site.old → self.old.under_way ≡ Some u
+            → OnOk result (IsNoLonger u.body (other_set self.old.set) (S.disk site.old) (S.disk site.new)) }
+
         // The steps that are left are fewer by one.
         ensures fewer { IfOk result (λ _. turns_left self.new.under_way ≡ turns_left self.old.under_way - 1) }
         ensures failed { OnErr result (self.new
@@ -208,6 +212,11 @@ impl Checkpoints {
             → self.old.under_way ≡ Some u → OnOk result (IsSureNow self.old self.new (S.disk site.new)) }
         ensures turn { (u : UnderWayOf) → self.old.under_way ≡ Some u → OnOk result (self.new
             ≡ record { set = other_set self.old.set; number = u.number; under_way = None }) }
+
+        // At Ok the data set is no longer than it was, or than the checkpoint is.
+        ensures no_longer { (u : UnderWayOf) → S.told site.old → self.old.under_way ≡ Some u
+            → OnOk result (IsNoLonger u.body (other_set self.old.set) (S.disk site.old) (S.disk site.new)) }
+
         ensures failed { OnErr result (self.new
             ≡ record { set = self.old.set; number = self.old.number; under_way = None }) }
         ensures cause { Counts (S.faults site.old) (S.faults site.new) result }
@@ -269,12 +278,20 @@ impl Checkpoints {
         ensures turn { OnOk result (self.new
             ≡ record { set = other_set self.old.set; number = self.old.number + 1; under_way = None }) }
 
+        // At Ok the data set is no longer than it was, or than the checkpoint is.
+        ensures no_longer { S.told site.old → OnOk result (IsNoLonger (body_with defs.now.msdbs (self.old.number + 1)
+            at count msdbs.now.msdbs (option_copied lasts.entry)) (other_set self.old.set) (S.disk site.old)
+            (S.disk site.new)) }
+
         // After `Failed` the newest sure one stays; after want of memory all is as it was.
         ensures failed { IsErrOf result faults.Failed → self.new
             ≡ record { set = self.old.set; number = self.old.number; under_way = None } }
         ensures unchanged { IsErrOf result faults.Memory → self.new ≡ self.old }
+
+        // `Failed` comes with a fault of the site, and each fault of it is told.
         ensures cause { IsErrOf result faults.Failed → (S.faults site.old < S.faults site.new)
             ⊎ (S.faults site.new ≡ 2 ^ 64 - 1) }
+        ensures stayed { (IsErrOf result faults.Failed → ⊥) → S.faults site.new ≡ S.faults site.old }
         ensures never { (set : ℕ) → IsErrOf result (faults.Damaged set) → ⊥ }
 
         // Want of memory comes before the site is touched.

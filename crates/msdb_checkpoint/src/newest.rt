@@ -46,6 +46,7 @@ fn number_in<S: Site>(site: &mut S, set: u16) -> Result<Option<u64>, CkptFault>
         (λ found. IfSome found (HasNumber ((S.disk site.old).contents set))) }
     ensures damaged { (place : ℕ) → S.told site.old → IsErrOf result (faults.Damaged place)
         → (place ≡ set) × HasBadHead ((S.disk site.old).contents set) }
+    ensures never { IsErrOf result faults.Memory → ⊥ }
     ensures cause { IsErrOf result faults.Failed → (S.faults site.old < S.faults site.new)
         ⊎ (S.faults site.new ≡ 2 ^ 64 - 1) }
     ensures stayed { (IsErrOf result faults.Failed → ⊥) → S.faults site.new ≡ S.faults site.old }
@@ -96,6 +97,7 @@ fn newest_set<S: Site>(site: &mut S) -> Result<Option<u16>, CkptFault>
         → IsBadSet (S.disk site.old).contents place }
     ensures good { S.told site.old → IfOk result
         (λ _. (set : ℕ) → IsBadSet (S.disk site.old).contents set → ⊥) }
+    ensures never { IsErrOf result faults.Memory → ⊥ }
     ensures cause { IsErrOf result faults.Failed → (S.faults site.old < S.faults site.new)
         ⊎ (S.faults site.new ≡ 2 ^ 64 - 1) }
     ensures stayed { (IsErrOf result faults.Failed → ⊥) → S.faults site.new ≡ S.faults site.old }
@@ -193,6 +195,10 @@ impl Checkpoints {
             ⊎ (S.faults site.new ≡ 2 ^ 64 - 1) }
         ensures stayed { (IsErrOf result faults.Failed → ⊥) → S.faults site.new ≡ S.faults site.old }
 
+        // It takes memory only for a checkpoint that is open.
+        ensures memory { S.told site.old → IsErrOf result faults.Memory
+            → (set : ℕ) × IsNewest (S.disk site.old).contents set }
+
         // Nothing changes, and only the two data sets are read: 17 bytes of each at the most, and the newest once more.
         ensures stays { S.told site.old → Stays (S.disk site.old) (S.disk site.new) }
         ensures reads { ReadsCheckpoints (S.tells_reads site.old) (S.tells_reads site.new) (S.bytes_read site.old)
@@ -209,7 +215,7 @@ impl Checkpoints {
         Ok(Some(load(alloc, site, defs.msdbs.as_slice(), set)?))
     }
 
-    /// The data set of the newest open checkpoint; 2 where neither is open. No body is read.
+    /// The data set of the newest open checkpoint; 2 where neither is open. No body is read. Takes no memory.
     pub fn slot_of<S: Site>(site: &mut S) -> Result<u16, CkptFault>
         ensures slot { S.told site.old → IfOk result (λ set. IsNewest (S.disk site.old).contents set
             ⊎ ((set ≡ 2) × IsNotOpen ((S.disk site.old).contents 1) × IsNotOpen ((S.disk site.old).contents 2))) }
@@ -221,7 +227,8 @@ impl Checkpoints {
         ensures good { S.told site.old → IfOk result
             (λ _. (set : ℕ) → IsBadSet (S.disk site.old).contents set → ⊥) }
 
-        // It fails only with the site.
+        // It fails only with the site, and takes no memory.
+        ensures never { IsErrOf result faults.Memory → ⊥ }
         ensures cause { IsErrOf result faults.Failed → (S.faults site.old < S.faults site.new)
             ⊎ (S.faults site.new ≡ 2 ^ 64 - 1) }
         ensures stayed { (IsErrOf result faults.Failed → ⊥) → S.faults site.new ≡ S.faults site.old }

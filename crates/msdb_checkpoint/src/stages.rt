@@ -4,7 +4,7 @@ ghost use Rattle.fp_site.specs.Moments.{OnlyOn, Through};
 ghost use Rattle.fp_lists.specs.Continued.{IsContinued};
 ghost use Rattle.fp_lists.specs.Faults.{Counts};
 ghost use Rattle.gated_write.specs.Gates.{ReadsOnly};
-ghost use Rattle.msdb_checkpoint.specs.Steps.{GoesFrom, IsAt, IsOldClosedOrWhole, IsSure, WritesPiece, steps_left};
+ghost use Rattle.msdb_checkpoint.specs.Steps.{GoesFrom, IsAt, IsNoLonger, IsOldClosedOrWhole, IsSure, WritesPiece, steps_left};
 ghost use Rattle.msdb_checkpoint.specs.inside.Steps.{IsNext, left_behind};
 ghost use Rattle.msdb_checkpoint.specs.declared.stages.Stage.TheVariants.{Begun, Synced, Written};
 ghost use Rattle.std.specs.Prelude.{◌≡◌, ◌+◌, ◌<◌, ◌≤◌, ◌^◌, ℕ, IfOk, List as ListOf, OnOk, Some, length};
@@ -41,6 +41,8 @@ const PIECE: usize = 65_536;
 fn close<S: Site>(site: &mut S, set: u16, body: &[u8]) -> Result<Option<Stage>, Failed>
     ensures next { S.told site.old → IfOk result (IsNext body.now set (S.disk site.new)) }
     ensures fewer { IfOk result (λ next. left_behind body.now next + 1 ≡ steps_left body.now Begun) }
+    ensures no_longer { S.told site.old
+        → OnOk result (IsNoLonger body.now set (S.disk site.old) (S.disk site.new)) }
     ensures cause { Counts (S.faults site.old) (S.faults site.new) result }
     ensures only { S.told site.old → OnlyOn set (S.disk site.old) (S.disk site.new) }
     ensures reads { ReadsOnly set (S.tells_reads site.old) (S.tells_reads site.new) (S.bytes_read site.old)
@@ -70,6 +72,8 @@ fn write_piece<S: Site>(
     ensures piece { S.told site.old
         → OnOk result (WritesPiece body.now count set (S.disk site.old) (S.disk site.new)) }
     ensures fewer { IfOk result (λ next. left_behind body.now next + 1 ≡ steps_left body.now (Written count)) }
+    ensures no_longer { S.told site.old
+        → OnOk result (IsNoLonger body.now set (S.disk site.old) (S.disk site.new)) }
     ensures cause { Counts (S.faults site.old) (S.faults site.new) result }
     ensures only { S.told site.old → OnlyOn set (S.disk site.old) (S.disk site.new) }
     ensures reads { ReadsOnly set (S.tells_reads site.old) (S.tells_reads site.new) (S.bytes_read site.old)
@@ -97,6 +101,8 @@ fn sync_body<S: Site>(
     ensures next { S.told site.old → IsAt body.now set (S.disk site.old) (Written count)
         → IfOk result (IsNext body.now set (S.disk site.new)) }
     ensures fewer { IfOk result (λ next. left_behind body.now next + 1 ≡ steps_left body.now (Written count)) }
+    ensures no_longer { S.told site.old
+        → OnOk result (IsNoLonger body.now set (S.disk site.old) (S.disk site.new)) }
     ensures cause { Counts (S.faults site.old) (S.faults site.new) result }
     ensures only { S.told site.old → OnlyOn set (S.disk site.old) (S.disk site.new) }
     ensures reads { ReadsOnly set (S.tells_reads site.old) (S.tells_reads site.new) (S.bytes_read site.old)
@@ -117,6 +123,8 @@ fn open_body<S: Site>(site: &mut S, set: u16, body: &[u8]) -> Result<Option<Stag
     ensures next { S.told site.old → IsAt body.now set (S.disk site.old) Synced
         → IfOk result (IsNext body.now set (S.disk site.new)) }
     ensures fewer { IfOk result (λ next. left_behind body.now next + 1 ≡ steps_left body.now Synced) }
+    ensures no_longer { S.told site.old
+        → OnOk result (IsNoLonger body.now set (S.disk site.old) (S.disk site.new)) }
     ensures cause { Counts (S.faults site.old) (S.faults site.new) result }
     ensures only { S.told site.old → OnlyOn set (S.disk site.old) (S.disk site.new) }
     ensures reads { ReadsOnly set (S.tells_reads site.old) (S.tells_reads site.new) (S.bytes_read site.old)
@@ -145,6 +153,8 @@ pub(crate) fn advance<S: Site>(
     ensures piece { (count : ℕ) → S.told site.old → stage ≡ Written count → count < length body.now
         → OnOk result (WritesPiece body.now count set (S.disk site.old) (S.disk site.new)) }
     ensures fewer { IfOk result (λ next. left_behind body.now next + 1 ≡ steps_left body.now stage) }
+    ensures no_longer { S.told site.old
+        → OnOk result (IsNoLonger body.now set (S.disk site.old) (S.disk site.new)) }
     ensures cause { Counts (S.faults site.old) (S.faults site.new) result }
 
     // No other data set changes, nothing is sent, and no other is read.
@@ -176,6 +186,8 @@ pub(crate) fn run<S: Site>(site: &mut S, set: u16, body: &[u8], stage: Stage) ->
     requires room { length body.now + 1 ≤ 2 ^ 62 }
     ensures sure { S.told site.old → GoesFrom body.now set (S.disk site.old) stage
         → OnOk result (IsSure body.now set (S.disk site.new)) }
+    ensures no_longer { S.told site.old
+        → OnOk result (IsNoLonger body.now set (S.disk site.old) (S.disk site.new)) }
     ensures cause { Counts (S.faults site.old) (S.faults site.new) result }
     ensures only { S.told site.old → OnlyOn set (S.disk site.old) (S.disk site.new) }
     ensures reads { ReadsOnly set (S.tells_reads site.old) (S.tells_reads site.new) (S.bytes_read site.old)

@@ -1,6 +1,7 @@
-use Rattle.std.proofs.Common.{subst}
+use Rattle.std.proofs.Common.{arith, subst}
 use Rattle.fp_site.proofs.Frames.{only_joined}
 use Rattle.fp_site.proofs.Runs.{joined, weaker}
+use Rattle.gated_write.proofs.Bodies.{on_ok}
 use Rattle.msdb_checkpoint.specs.Steps.{IsAt}
 use Rattle.msdb_checkpoint.specs.inside.Steps.{IsNext}
 use Rattle.msdb_checkpoint.proofs.StageLemmas.{and_then, may_go}
@@ -38,3 +39,9 @@ returns-in-Some-clause-sure g n c t goes =
     let at1 : IsAt c.args.body.now c.args.set (g.S.Site.disk c.advance.new.site) c.in-Some.next =
     subst (IsNext c.args.body.now c.args.set (g.S.Site.disk c.advance.new.site)) c.in-Some.is next in
     c.run.ensures.sure t1 (may_go c.args.body.now c.args.set (g.S.Site.disk c.advance.new.site) c.in-Some.next at1)
+
+pub returns-in-Some-clause-no_longer : goal.returns-in-Some-clause-no_longer
+returns-in-Some-clause-no_longer g n c t =
+    let first = c.in_ok-next.ensures.no_longer t in
+    let t1 = c.advance.ensures.site.still_told t in
+    on_ok c.run.result (c.run.ensures.no_longer t1) (λ further. omega (arith, first, further))

@@ -1,3 +1,4 @@
+use Rattle.std.proofs.Common.{ap, arith, length}
 use Rattle.fp_site.proofs.Runs.{weaker}
 use Rattle.msdb_checkpoint.proofs.StageLemmas.{unopened_is, whole_body}
 use Rattle.msdb_checkpoint.proofs.stages.sync_body.Goals as goal
@@ -27,3 +28,6 @@ returns-clause-crash g c t at = weaker _ _ _ _
 pub returns-clause-settles : goal.returns-clause-settles
 returns-clause-settles g c image t at settles = unopened_is _ c.args.set c.args.body.now at.0 image at.1
     (c.finish.ensures.settles at.0 0 t at.3.each image settles)
+
+pub returns-clause-no_longer : goal.returns-clause-no_longer
+returns-clause-no_longer g c t = omega (arith, ap length (c.finish.ensures.same t))

@@ -1,8 +1,8 @@
-use Rattle.std.proofs.Common.{◌+◌, take, sym, ap, ◌∙◌, subst, arith}
-use Rattle.std.proofs.lemmas.List.{length-take}
+use Rattle.std.proofs.Common.{◌+◌, ◌-◌, drop, take, sym, ap, ◌∙◌, subst, arith}
+use Rattle.std.proofs.lemmas.List.{length-drop, length-take}
 use Rattle.fp_site.proofs.Runs.{weaker}
 use Rattle.gated_write.specs.Gates.{IsWriting}
-use Rattle.msdb_checkpoint.proofs.StageLemmas.{piece_is, unopened_is, up_to}
+use Rattle.msdb_checkpoint.proofs.StageLemmas.{piece_is, unopened_is, up_to, written_within}
 use Rattle.fp_site.specs.Disk.{written}
 use Rattle.msdb_checkpoint.proofs.stages.write_piece.Goals as goal
 
@@ -41,3 +41,12 @@ returns-clause-piece g c t =
     let same = piece_is c.args.body.now c.args.count c.min-end.result (omega (arith, c.requires.more))
     (omega (arith, c.min-end.ensures)) in
     c.in_ok-put.ensures.text t ∙ ap (λ piece. written old (1 + c.args.count) piece) same
+
+pub returns-clause-no_longer : goal.returns-clause-no_longer
+returns-clause-no_longer g c t =
+    let body = c.args.body.now in
+    let end = c.min-end.result in
+    let long = length-take (end - c.args.count) (drop c.args.count body) in
+    written_within body _ _ (take (end - c.args.count) (drop c.args.count body)) (1 + c.args.count)
+    (omega (arith, c.min-end.ensures, c.requires.more, long, length-drop c.args.count body))
+    (c.in_ok-put.ensures.text t)
