@@ -1,7 +1,6 @@
 -- A new element, where it was looked for.
-use Rattle.std.proofs.Common.{◌≡◌, ◌≢◌, ℕ, zero, suc, ◌+◌, ◌-◌, ◌*◌, ◌<◌, ◌≤◌, ◌⊎◌, inl, inr, List, [], ◌∷◌, length, drop, slice_index, Option, Some, None, IfNone, IsTrue, refl, sym, ap, ◌∙◌, subst, arith}
+use Rattle.std.proofs.Common.{◌≡◌, ◌≢◌, ℕ, zero, suc, ◌+◌, ◌-◌, ◌*◌, ◌<◌, ◌≤◌, inl, inr, List, [], ◌∷◌, length, drop, slice_index, Option, Some, None, IfNone, IsTrue, refl, sym, ap, ◌∙◌, subst, arith}
 use Rattle.std.proofs.lemmas.List.{get_or_past}
-use Rattle.std.proofs.lemmas.Bool.{cases_lt}
 use Rattle.ci_space.specs.declared.intervals.Shape.{Shape}
 use Rattle.ci_space.specs.declared.head.Head.{Head}
 use Rattle.ci_space.specs.Element.{Free}
@@ -82,6 +81,7 @@ pub taken-standing : (shape : Shape) (old new : List (List ℕ)) (anchor n : ℕ
     → TakesAt old new room.0 n room.1 → TakesRoom shape old new anchor n room
 taken-standing shape old new anchor n room z a = record {
   has_room = a.takes.room;
+  exact = a.takes.exact;
   fresh = a.takes.fresh;
   others = record {
     here = a.takes.others;
@@ -121,6 +121,7 @@ pub finds : (shape : Shape) (old new : List (List ℕ)) (anchor n : ℕ) (room :
 finds shape old new anchor n room p t = record {
   place = p;
   has_room = t.has_room;
+  exact = t.exact;
   fresh = t.fresh;
   others = t.others;
   named = t.named;
@@ -273,6 +274,7 @@ taken_free shape old new anchor n room u b j =
     let some : first_free old ≢ 0 = λ e. omega (arith, j.is_first, j.from, behind, e) in
     record {
       has_room = j.joins.takes.room;
+      exact = j.joins.takes.exact;
       fresh = j.joins.takes.fresh;
       others = w.others;
       named = w.named;
@@ -315,6 +317,7 @@ taken_new shape old new anchor n room u b none j =
     (λ i. absurd (no_interval_past (bytes_at old room.0) past i)) in
     record {
       has_room = j.joins.takes.room;
+      exact = j.joins.takes.exact;
       fresh = λ x. none_past (bytes_at old room.0) room.1 x.segment x.content past x.used;
       others = w.others;
       named = w.named;

@@ -4,7 +4,7 @@ use Rattle.std.proofs.lemmas.Bool.{cases_lt}
 use Rattle.ci_space.specs.declared.intervals.Shape.{Shape}
 use Rattle.ci_space.specs.Element.{Free}
 use Rattle.ci_space.specs.Interval.{kind_of, has_elements, HasUsed, IsUsed, IsInterval, IsEmpty, UsedIsFreed, OthersStay, Keeps}
-use Rattle.ci_space.specs.Head.{head_of, ends_of}
+use Rattle.ci_space.specs.Head.{head_of}
 use Rattle.ci_space.proofs.Tilings.{used-kind}
 use Rattle.ci_space.proofs.Standing.{used-stands}
 use Rattle.ci_overflow.specs.Places.{first_base, first_independent, kind_at}

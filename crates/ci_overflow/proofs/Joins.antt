@@ -1,6 +1,5 @@
 -- Intervals whose heads and ends change, and one that joins a list.
-use Rattle.std.proofs.Common.{◌≡◌, ◌≢◌, ℕ, ◌+◌, ◌-◌, ◌*◌, ◌<◌, ◌≤◌, List, [], ◌∷◌, length, get_or, drop, slice_index, Result, Ok, Err, OnOk, IsTrue, refl, sym, ap, ◌∙◌, arith}
-use Rattle.std.proofs.lemmas.List.{get_or-drop}
+use Rattle.std.proofs.Common.{◌≡◌, ◌≢◌, ℕ, ◌+◌, ◌*◌, ◌<◌, ◌≤◌, List, [], ◌∷◌, length, drop, slice_index, IsTrue, refl, sym, ap, ◌∙◌, arith}
 use Rattle.std.proofs.lemmas.Nat.{mul-le}
 use Rattle.ci_space.specs.declared.intervals.Shape.{Shape}
 use Rattle.ci_space.specs.declared.head.Head.{Head}
@@ -14,6 +13,7 @@ use Rattle.ci_overflow.specs.Places.{first_base, first_independent, kind_at}
 use Rattle.ci_overflow.specs.Lists.{bytes_at, link_of, owner_of, counted, first_free}
 use Rattle.ci_overflow.specs.Rooms.{KeepsUsed, TakesIn, IsPut, ChangesLink, ChangesEnds, PutsEnds, Joins, IsGrown, JoinsFree, JoinsNew}
 use Rattle.ci_overflow.specs.inside.Rooms.{JoinsNext}
+use Rattle.ci_overflow.proofs.Tries.{takes-exact}
 use Rattle.plain_laws.proofs.Lists.{keeps_dropped}
 
 -- an interval whose elements stay
@@ -34,6 +34,7 @@ pub takes-behind : (old middle new : List ℕ) (n at : ℕ) → KeepsUsed old mi
     → HasRoom new at n → ¬ IsUsed middle at → OthersStay middle new at → TakesIn old new n at
 takes-behind old middle new n at k t r f o = record {
   room = r;
+  exact = takes-exact middle new n at t;
   fresh = λ u. f (record { segment = u.segment; content = u.content; used = k.stay at u.segment u.content u.used });
   others = record {
     stay = λ place segment content h u. o.stay place segment content h (k.stay place segment content u);

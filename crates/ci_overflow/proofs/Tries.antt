@@ -3,14 +3,15 @@ use Rattle.std.proofs.Common.{◌≡◌, ◌≢◌, ℕ, zero, suc, ◌+◌, ◌
 use Rattle.std.specs.List.{All}
 use Rattle.std.proofs.lemmas.List.Elements.{All-nil, All-cons, All-head, All-tail, All-append}
 use Rattle.ci_space.specs.Element.{Element, Free, Used, free_size, size_for, rest_free}
-use Rattle.ci_space.proofs.Standing.{Tiles-unique}
+use Rattle.ci_space.proofs.Standing.{Tiles-unique, takes-used}
+use Rattle.ci_space.proofs.Contents.{used-length}
 use Rattle.ci_space.specs.Interval.{kind_of, HasRoom, IsUsed, IsFull, OthersStay, Keeps}
 use Rattle.ci_space.specs.Interval.{Takes}
 use Rattle.ci_space.specs.Head.{head_of}
 use Rattle.ci_space.proofs.Places.{big_from-keeps}
 use Rattle.ci_overflow.specs.declared.reading.Tried.{Tried}
 use Rattle.ci_overflow.specs.Lists.{bytes_at, link_of, owner_of, IsChain}
-use Rattle.ci_overflow.specs.Rooms.{numbers_from, AreFull, IsFirst, TakesIn, IsPut, IsInUse, TakesAt, IsTried, AreTried}
+use Rattle.ci_overflow.specs.Rooms.{numbers_from, AreFull, IsFirst, HasSizeFor, TakesIn, IsPut, IsInUse, TakesAt, IsTried, AreTried}
 use Rattle.ci_overflow.specs.inside.Rooms.{IsLeft, IsOnChain}
 
 -- a head that stays has its link and its owner
@@ -39,10 +40,16 @@ in-use bytes kind owner k o n u = record {
       λ e z. u (sym k ∙ e) (sym o ∙ z);
 }
 
+-- the new element has the bytes that it needs
+pub takes-exact : (old new : List ℕ) (n at : ℕ) → Takes old new n at → HasSizeFor new at n
+takes-exact old new n at t segment content u =
+    sym (used-length new at segment content u) ∙ used-length new at 0 t.content (takes-used old new n at t) ∙ t.is_size
+
 taken-in : (old new : List ℕ) (n at : ℕ) → Takes old new n at → HasRoom new at n → ¬ IsUsed old at
     → OthersStay old new at → TakesIn old new n at
 taken-in old new n at t r f o = record {
   room = r;
+  exact = takes-exact old new n at t;
   fresh = f;
   others = o;
   is_interval =

@@ -1,6 +1,7 @@
 -- Where an element is looked for, and what the calls change.
 use Rattle.std.specs.Prelude.{◌≡◌, ◌≢◌, ◌⊎◌, ℕ, zero, suc, ◌+◌, ◌<◌, List, [], ◌∷◌, ◌++◌, length, drop, slice_index, IsTrue, ◌≤◌, Option, IfSome, IfNone, ⊤}
 use Rattle.ci_space.specs.declared.intervals.Shape.{Shape}
+use Rattle.ci_space.specs.Element.{size_for}
 use Rattle.ci_space.specs.Interval.{IsInterval, HasUsed, IsUsed, HasRoom, IsFull, OthersStay, Keeps, IsEmpty, kind_of, empty_bytes, is_size}
 use Rattle.ci_space.specs.Head.{head_of, ends_of}
 use Rattle.ci_overflow.specs.Places.{first_base, first_dependent, first_independent, uow_of, base_of}
@@ -51,9 +52,15 @@ pub record OnlyOneChanges (old new : List (List ℕ)) (ci at : ℕ) : Type 0 whe
   pub here : OthersStay (bytes_at old ci) (bytes_at new ci) at
   pub elsewhere : (other : ℕ) → other ≢ ci → KeepsUsed (bytes_at old other) (bytes_at new other)
 
--- a new used element with room for `n` bytes stands at `at`, and all others stay
+-- the used element at `at` has the bytes that one for `n` needs, and no more
+abbrev pub HasSizeFor : List ℕ → ℕ → ℕ → Type 0
+HasSizeFor bytes at n = (segment : ℕ) (content : List ℕ) → HasUsed bytes at segment content
+    → 4 + length content ≡ size_for n
+
+-- a new used element with room for `n` bytes and no more stands at `at`, and all others stay
 pub record TakesIn (old new : List ℕ) (n at : ℕ) : Type 0 where
   pub room : HasRoom new at n
+  pub exact : HasSizeFor new at n
   pub fresh : ¬ IsUsed old at
   pub others : OthersStay old new at
   pub is_interval : IsInterval new
@@ -207,10 +214,11 @@ pub record JoinsFront (shape : Shape) (uow : ℕ) (old new : List (List ℕ)) (c
   pub from_end : first_free old ≡ 0 → (first_free new ≡ 0) × (counted new ≡ counted old + 1)
       × (length new ≡ length old + 1)
 
--- a new element of `n` bytes or more is there, and all else stays
+-- a new element for `n` bytes is there, and all else stays
 pub record TakesRoom (shape : Shape) (old new : List (List ℕ)) (anchor n : ℕ) (room : ℕ × ℕ) : Type 0 where
-  -- it is a used element now, and was none before
+  -- it is a used element now, no longer than `n` bytes need, and was none before
   pub has_room : HasRoom (bytes_at new room.0) room.1 n
+  pub exact : HasSizeFor (bytes_at new room.0) room.1 n
   pub fresh : ¬ IsUsed (bytes_at old room.0) room.1
   -- every other used element stays
   pub others : OnlyOneChanges old new room.0 room.1
@@ -234,8 +242,9 @@ pub record TakesRoom (shape : Shape) (old new : List (List ℕ)) (anchor n : ℕ
 pub record FindsRoom (shape : Shape) (old new : List (List ℕ)) (anchor n : ℕ) (room : ℕ × ℕ) : Type 0 where
   -- its interval is the first in the stated order with room
   pub place : IsFirstPlace shape old anchor n room.0
-  -- it is a used element now, and was none before
+  -- it is a used element now, no longer than `n` bytes need, and was none before
   pub has_room : HasRoom (bytes_at new room.0) room.1 n
+  pub exact : HasSizeFor (bytes_at new room.0) room.1 n
   pub fresh : ¬ IsUsed (bytes_at old room.0) room.1
   -- every other used element stays
   pub others : OnlyOneChanges old new room.0 room.1
