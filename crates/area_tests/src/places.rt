@@ -110,7 +110,7 @@ fn is_set(alloc: Global, area: &mut MemoryArea) -> Result<bool, AllocError> {
 }
 
 #[test]
-fn a_newest_serial_is_told_and_set(rt: HostRuntime) -> Result<(), Fail> {
+fn a_newest_serial_is_told(rt: HostRuntime) -> Result<(), Fail> {
     let Some(mut area) = stored(&rt)? else {
         assert!(rt; false);
         return Ok(());
@@ -121,6 +121,15 @@ fn a_newest_serial_is_told_and_set(rt: HostRuntime) -> Result<(), Fail> {
             "{number}"
         );
     }
+    Ok(())
+}
+
+#[test]
+fn a_newest_serial_is_set(rt: HostRuntime) -> Result<(), Fail> {
+    let Some(mut area) = stored(&rt)? else {
+        assert!(rt; false);
+        return Ok(());
+    };
     for (number, newest, there) in &SETS {
         assert!(rt;
             sets(rt.alloc(), &mut area, *number, *newest, *there)?,

@@ -225,15 +225,24 @@ fn changed_bytes(old: &[u8], new: &[u8]) -> (u64, usize, u8) {
     changed
 }
 
+/// What changes where the chain is stored once more, one root of it with another name. None where a call fails.
+fn changed_by_a_name(rt: &HostRuntime) -> Result<Option<(u64, usize, u8)>, Fail> {
+    let mut area = area(rt, 2)?;
+    if !stores_chain(rt, &mut area, b'A')? {
+        return Ok(None);
+    }
+    let before = area.bytes()?;
+    if !stores_chain(rt, &mut area, b'B')? {
+        return Ok(None);
+    }
+    Ok(Some(changed_bytes(&before, &area.bytes()?)))
+}
+
 #[test]
 fn one_root_that_changes_is_written_alone(rt: HostRuntime) -> Result<(), Fail> {
-    let mut area = area(&rt, 2)?;
-    assert!(rt; stores_chain(&rt, &mut area, b'A')?);
-    let before = area.bytes()?;
-    assert!(rt; stores_chain(&rt, &mut area, b'B')?);
     // The name of C078, the second element of interval 6 from its front.
     let wanted = (1, 6 * 512 + 32 + 48 + 36, b'B');
-    assert!(rt; changed_bytes(&before, &area.bytes()?) == wanted);
+    assert!(rt; changed_by_a_name(&rt)? == Some(wanted));
     Ok(())
 }
 
