@@ -1,12 +1,14 @@
 -- The calls of the system that were made of a data set, of the parts of a source, or of the output, the newest first.
-use Rattle.std.specs.Prelude.{ℕ, Bool, true, false, List, [], ◌∷◌, Option, Some, None, ◌==◌, ◌||◌}
+use Rattle.std.specs.Prelude.{◌⊎◌, ℕ, Bool, true, false, List, [], ◌∷◌, Option, Some, None, ◌≡◌, ◌==◌, ◌||◌, length, if◌then◌else◌}
 use Rattle.fp_source.specs.declared.part.Part.{Part}
 use Rattle.fp_files.specs.declared.folder.Access.{Access}
 use Rattle.fp_files.specs.declared.folder.Access.TheVariants.{Change, Look}
 
 pub data HostCall : Type 0 where
-  -- these bytes were written to the file at this offset, all of them or some
+  -- these bytes were written to the file at this offset
   Wrote : ℕ → List ℕ → HostCall
+  -- some of these bytes, or none, were written to the file at this offset, and then that failed
+  WroteSome : ℕ → List ℕ → HostCall
   -- the file was synced, and the system answered Ok
   Synced : HostCall
   -- the file was asked for its length, and had this many bytes
@@ -40,9 +42,21 @@ abbrev pub is_synced : List HostCall → Bool
 is_synced [] = false
 is_synced (Synced ∷ earlier) = true
 is_synced (Wrote at bytes ∷ earlier) = false
+is_synced (WroteSome at bytes ∷ earlier) = false
 is_synced (Rewrote count ∷ earlier) = false
 is_synced (RewroteSome ∷ earlier) = false
 is_synced (call ∷ earlier) = is_synced earlier
+
+-- whether the file was made or written, all of it or some, and wasn't synced since
+abbrev pub owes_sync : List HostCall → Bool
+owes_sync [] = false
+owes_sync (Synced ∷ earlier) = false
+owes_sync (Wrote at bytes ∷ earlier) = true
+owes_sync (WroteSome at bytes ∷ earlier) = true
+owes_sync (Rewrote count ∷ earlier) = true
+owes_sync (RewroteSome ∷ earlier) = true
+owes_sync (Made ∷ earlier) = true
+owes_sync (call ∷ earlier) = owes_sync earlier
 
 -- whether the folder was synced since the file was made
 abbrev pub is_named : List HostCall → Bool
@@ -86,6 +100,7 @@ abbrev pub known_length : List HostCall → Option ℕ
 known_length [] = None
 known_length (Measured length ∷ earlier) = Some length
 known_length (Wrote at bytes ∷ earlier) = None
+known_length (WroteSome at bytes ∷ earlier) = None
 known_length (Rewrote count ∷ earlier) = None
 known_length (RewroteSome ∷ earlier) = None
 known_length (Made ∷ earlier) = None
@@ -97,3 +112,24 @@ is_written_out [] = false
 is_written_out (Sent ∷ earlier) = false
 is_written_out (WroteOut ∷ earlier) = true
 is_written_out (call ∷ earlier) = is_written_out earlier
+
+-- the call of this number, counted from 0 as they were made
+abbrev pub numbered : List HostCall → ℕ → Option HostCall
+numbered [] n = None
+numbered (call ∷ earlier) n = if n == length earlier then Some call else numbered earlier n
+
+-- Each call of the old list has the same number in the new one: these are the old ones, and others behind them.
+abbrev pub IsLonger : List HostCall → List HostCall → Type 0
+IsLonger old new = (n : ℕ) (call : HostCall) → numbered old n ≡ Some call → numbered new n ≡ Some call
+
+-- the writes among some calls, but for those of a rewrite
+abbrev pub writes_of : List HostCall → List HostCall
+writes_of [] = []
+writes_of (Wrote at bytes ∷ earlier) = Wrote at bytes ∷ writes_of earlier
+writes_of (WroteSome at bytes ∷ earlier) = WroteSome at bytes ∷ writes_of earlier
+writes_of (call ∷ earlier) = writes_of earlier
+
+-- the writes are as before, or one more was made or failed, of these bytes at this offset
+abbrev pub WritesOnce : ℕ → List ℕ → List HostCall → List HostCall → Type 0
+WritesOnce at bytes old new =
+    (new ≡ old) ⊎ ((new ≡ Wrote at bytes ∷ old) ⊎ (new ≡ WroteSome at bytes ∷ old))

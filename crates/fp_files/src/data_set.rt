@@ -11,7 +11,7 @@ ghost use Rattle.std.specs.Prelude.{◌≡◌, ◌++◌, ◌∷◌, ◌≤◌, �
 ghost use Rattle.std.specs.Fmt.{decimal};
 ghost use Rattle.std.specs.Option.{ForSome};
 ghost use Rattle.std.specs.String.{string_bytes};
-ghost use Rattle.fp_files.specs.Calls.{is_alone, is_locked, is_named, is_settled, is_synced, known_length, newest};
+ghost use Rattle.fp_files.specs.Calls.{IsLonger, WritesOnce, is_alone, is_locked, is_named, is_settled, is_synced, known_length, newest, owes_sync, writes_of};
 ghost use Rattle.fp_files.specs.Calls.HostCall.{Made, Measured, Rewrote, Synced, Wrote};
 ghost use Rattle.fp_files.specs.Files.{data_set_name};
 ghost use Rattle.fp_files.specs.declared.folder.Access.{Access};
@@ -58,6 +58,8 @@ pub(crate) struct DataSet {
     ghost absent: { IsSome length → IsNone file → length ≡ Some 0 },
     // Its file was made here, or rewritten and then synced, where it may be changed.
     ghost settled: { access ≡ Access.Change → IsSome file → is_settled calls.events ≡ true },
+    // While no file is open, none was made or written that isn't synced, but where that failed.
+    ghost owes: { IsNone file → is_lost ≡ false → owes_sync calls.events ≡ false },
     // Where its name is durable, the folder was synced, and since then no file was made.
     ghost named: { has_durable_name ≡ true → is_named calls.events ≡ true },
 }
@@ -88,6 +90,7 @@ impl DataSet {
     pub(crate) fn new(alloc: Global, set: u16, lock: &Lock) -> DataSet
         ensures set { result.set ≡ set }
         ensures access { result.access ≡ lock.now.access }
+        ensures writes { writes_of result.calls.events ≡ [] }
     {
         DataSet {
             set,
@@ -111,6 +114,8 @@ impl DataSet {
         ensures refused { self.old.is_lost ≡ true → IsErr result }
         ensures lost { self.old.is_lost ≡ true → self.new.is_lost ≡ true }
         ensures access { self.new.access ≡ self.old.access }
+        ensures kept { IsLonger self.old.calls.events self.new.calls.events }
+        ensures writes { writes_of self.new.calls.events ≡ writes_of self.old.calls.events }
         ensures set { self.new.set ≡ self.old.set }
     {
         self.find(folder)?;
@@ -147,6 +152,8 @@ impl DataSet {
         ensures refused { self.old.is_lost ≡ true → IsErr result }
         ensures lost { self.old.is_lost ≡ true → self.new.is_lost ≡ true }
         ensures access { self.new.access ≡ self.old.access }
+        ensures kept { IsLonger self.old.calls.events self.new.calls.events }
+        ensures writes { writes_of self.new.calls.events ≡ writes_of self.old.calls.events }
         ensures set { self.new.set ≡ self.old.set }
     {
         let length = self.size(folder)?;
@@ -175,6 +182,8 @@ impl DataSet {
         ensures refused { self.old.is_lost ≡ true → IsErr result }
         ensures lost { self.old.is_lost ≡ true → self.new.is_lost ≡ true }
         ensures access { self.new.access ≡ self.old.access }
+        ensures kept { IsLonger self.old.calls.events self.new.calls.events }
+        ensures writes { WritesOnce at from.now (writes_of self.old.calls.events) (writes_of self.new.calls.events) }
         ensures set { self.new.set ≡ self.old.set }
     {
         self.ahead.clear();
@@ -190,7 +199,8 @@ impl DataSet {
         let answer = match &self.file {
             Some(file) => host::write(file, &mut self.calls, at, from),
             None => {
-                let file = self.made(folder)?;
+                let file = made(folder, &mut self.calls, self.set)?;
+                self.has_durable_name = false;
                 let file = self.file.insert(file);
                 host::write(file, &mut self.calls, at, from)
             }
@@ -204,10 +214,13 @@ impl DataSet {
         folder: &Folder<'_, R>,
     ) -> Result<(), Cause>
         ensures synced { OnOk result (IsSome self.new.file → is_synced self.new.calls.events ≡ true) }
+        ensures owes { OnOk result (owes_sync self.new.calls.events ≡ false) }
         ensures named { OnOk result (self.new.has_durable_name ≡ true) }
         ensures failed { OnErr result (self.new.is_lost ≡ true) }
         ensures refused { self.old.is_lost ≡ true → IsErr result }
         ensures access { self.new.access ≡ self.old.access }
+        ensures kept { IsLonger self.old.calls.events self.new.calls.events }
+        ensures writes { writes_of self.new.calls.events ≡ writes_of self.old.calls.events }
         ensures set { self.new.set ≡ self.old.set }
     {
         let answer = self.try_sync(folder);
@@ -217,16 +230,16 @@ impl DataSet {
 
     fn try_sync<R: Files<File = File>>(&mut self, folder: &Folder<'_, R>) -> Result<(), Cause>
         ensures synced { OnOk result (IsSome self.new.file → is_synced self.new.calls.events ≡ true) }
+        ensures owes { OnOk result (owes_sync self.new.calls.events ≡ false) }
         ensures named { OnOk result (self.new.has_durable_name ≡ true) }
         ensures refused { self.old.is_lost ≡ true → IsErr result }
         ensures access { self.new.access ≡ self.old.access }
+        ensures kept { IsLonger self.old.calls.events self.new.calls.events }
+        ensures writes { writes_of self.new.calls.events ≡ writes_of self.old.calls.events }
         ensures set { self.new.set ≡ self.old.set }
     {
         self.find(folder)?;
-        if let Some(file) = &self.file {
-            let answer = host::sync(file, &mut self.calls);
-            answer.map_err(|error| failed(self.set, Call::Sync, error))?;
-        }
+        self.sync_file()?;
         if !self.has_durable_name {
             let answer = host::sync_folder(folder, &mut self.calls);
             answer.map_err(|error| failed_on_folder(Call::Sync, error))?;
@@ -235,13 +248,33 @@ impl DataSet {
         Ok(())
     }
 
+    // Syncs its file, if one is open.
+    fn sync_file(&mut self) -> Result<(), Cause>
+        requires { self.old.is_lost ≡ false }
+        ensures synced { OnOk result (IsSome self.new.file → is_synced self.new.calls.events ≡ true) }
+        ensures owes { OnOk result (owes_sync self.new.calls.events ≡ false) }
+        ensures access { self.new.access ≡ self.old.access }
+        ensures set { self.new.set ≡ self.old.set }
+        ensures kept { IsLonger self.old.calls.events self.new.calls.events }
+        ensures writes { writes_of self.new.calls.events ≡ writes_of self.old.calls.events }
+    {
+        let Some(file) = &self.file else {
+            return Ok(());
+        };
+        let answer = host::sync(file, &mut self.calls);
+        answer.map_err(|error| failed(self.set, Call::Sync, error))
+    }
+
     // Opens its file and settles it, if there is one.
     fn find<R: Files<File = File>>(&mut self, folder: &Folder<'_, R>) -> Result<(), Cause>
         ensures refused { self.old.is_lost ≡ true → IsErr result }
         ensures lost { self.old.is_lost ≡ true → self.new.is_lost ≡ true }
+        ensures usable { OnOk result (self.new.is_lost ≡ false) }
         ensures ahead { self.new.ahead ≡ self.old.ahead }
         ensures length { self.old.length ≡ None → self.new.length ≡ None }
         ensures access { self.new.access ≡ self.old.access }
+        ensures kept { IsLonger self.old.calls.events self.new.calls.events }
+        ensures writes { writes_of self.new.calls.events ≡ writes_of self.old.calls.events }
         ensures set { self.new.set ≡ self.old.set }
     {
         if self.is_lost {
@@ -264,9 +297,12 @@ impl DataSet {
         requires { self.old.length ≡ None }
         ensures settled { OnOk result (self.new.access ≡ Access.Change → is_settled self.new.calls.events ≡ true) }
         ensures failed { OnErr result (self.new.is_lost ≡ true) }
+        ensures usable { self.old.is_lost ≡ false → OnOk result (self.new.is_lost ≡ false) }
         ensures ahead { self.new.ahead ≡ self.old.ahead }
         ensures length { self.new.length ≡ self.old.length }
         ensures access { self.new.access ≡ self.old.access }
+        ensures kept { IsLonger self.old.calls.events self.new.calls.events }
+        ensures writes { writes_of self.new.calls.events ≡ writes_of self.old.calls.events }
         ensures set { self.new.set ≡ self.old.set }
     {
         if self.access == Access::Look {
@@ -276,28 +312,6 @@ impl DataSet {
         settle(alloc, file, &mut self.calls)?;
         self.is_lost = false;
         Ok(())
-    }
-
-    // Its file, which is made.
-    fn made<R: Files<File = File>>(&mut self, folder: &Folder<'_, R>) -> Result<SetFile, Cause>
-        requires access { self.old.access ≡ Access.Change }
-        requires unmeasured { self.old.length ≡ None }
-        ensures of { IfOk result (λ file. file.set ≡ self.old.set) }
-        ensures made { OnOk result (is_settled self.new.calls.events ≡ true) }
-        ensures named { OnOk result (self.new.has_durable_name ≡ false) }
-        ensures lost { self.new.is_lost ≡ self.old.is_lost }
-        ensures ahead { self.new.ahead ≡ self.old.ahead }
-        ensures length { self.new.length ≡ self.old.length }
-        ensures access { self.new.access ≡ self.old.access }
-        ensures set { self.new.set ≡ self.old.set }
-    {
-        match SetFile::make(folder, &mut self.calls, self.set) {
-            Ok(file) => {
-                self.has_durable_name = false;
-                Ok(file)
-            }
-            Err(error) => Err(failed(self.set, Call::Open, error)),
-        }
     }
 }
 
@@ -335,6 +349,8 @@ fn settle(alloc: Global, file: &SetFile, calls: &mut Record) -> Result<(), Cause
     ensures settled { is_settled calls.old.events ≡ true → is_settled calls.new.events ≡ true }
     ensures named { is_named calls.new.events ≡ is_named calls.old.events }
     ensures locked { is_locked calls.new.events ≡ is_locked calls.old.events }
+    ensures kept { IsLonger calls.old.events calls.new.events }
+    ensures writes { writes_of calls.new.events ≡ writes_of calls.old.events }
     ensures alone { is_alone calls.new.events ≡ is_alone calls.old.events }
 {
     let set = file.set();
@@ -349,6 +365,7 @@ fn settle(alloc: Global, file: &SetFile, calls: &mut Record) -> Result<(), Cause
 fn length_of(file: &SetFile, calls: &mut Record, set: u16) -> Result<u64, Cause>
     ensures ok { IfOk result (λ n. calls.new.events ≡ Measured n ∷ calls.old.events) }
     ensures err { OnErr result (calls.new.events ≡ calls.old.events) }
+    ensures kept { IsLonger calls.old.events calls.new.events }
 {
     match host::length(file, calls) {
         Ok(length) => Ok(length),
@@ -365,6 +382,24 @@ fn found<R: Files<File = File>>(
     ensures { IfOk result (λ file. ForSome file (λ opened. opened.set ≡ set)) }
 {
     match SetFile::find(folder, access, set) {
+        Ok(file) => Ok(file),
+        Err(error) => Err(failed(set, Call::Open, error)),
+    }
+}
+
+// The file of a data set, which is made.
+fn made<R: Files<File = File>>(
+    folder: &Folder<'_, R>,
+    calls: &mut Record,
+    set: u16,
+) -> Result<SetFile, Cause>
+    requires { is_alone calls.old.events ≡ true }
+    ensures of { IfOk result (λ file. file.set ≡ set) }
+    ensures ok { OnOk result (calls.new.events ≡ Made ∷ calls.old.events) }
+    ensures err { OnErr result (calls.new.events ≡ calls.old.events) }
+    ensures kept { IsLonger calls.old.events calls.new.events }
+{
+    match SetFile::make(folder, calls, set) {
         Ok(file) => Ok(file),
         Err(error) => Err(failed(set, Call::Open, error)),
     }

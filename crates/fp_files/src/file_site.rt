@@ -11,7 +11,7 @@ ghost use Rattle.fp_lists.specs.Faults.{Counts, Rose};
 ghost use Rattle.fp_files.specs.Calls.{is_written_out};
 ghost use Rattle.fp_files.specs.Files.{untold};
 ghost use Rattle.fp_files.specs.Output.{Gathers, WritesOut};
-ghost use Rattle.fp_files.specs.Sets.{AreNumbered, HasLength, HasWritten, IsLost, IsSynced, StayLost};
+ghost use Rattle.fp_files.specs.Sets.{AreLonger, AreNumbered, AreUnwritten, HasLength, HasWritten, IsLost, IsSynced, StayLost, WriteOnce};
 
 use crate::cause::{Call, Cause, Place};
 use crate::data_set::DataSet;
@@ -54,6 +54,7 @@ impl<'a, R: Files<File = File>, W: Write + Drop> FileSite<'a, R, W> {
     ) -> io::Result<FileSite<'a, R, W>>
         ensures faults { IfOk result (λ site. site.faults.count ≡ 0) }
         ensures first { IfOk result (λ site. site.faults.first ≡ None) }
+        ensures access { IfOk result (λ site. site.access ≡ access) }
     {
         Ok(FileSite {
             folder,
@@ -71,6 +72,7 @@ impl<'a, R: Files<File = File>, W: Write + Drop> FileSite<'a, R, W> {
         ensures written { OnOk result (is_written_out self.new.calls.events ≡ true) }
         ensures output { WritesOut W.contents self.old.output self.new.output result }
         ensures cause { Counts self.old.faults.count self.new.faults.count result }
+        ensures access { self.new.access ≡ self.old.access }
         ensures lock { self.new.lock ≡ self.old.lock }
         ensures sets { self.new.sets ≡ self.old.sets }
     {
@@ -102,6 +104,7 @@ impl<'a, R: Files<File = File>, W: Write + Drop> FileSite<'a, R, W> {
         ensures kept { IsSome self.old.faults.first → self.new.faults.first ≡ self.old.faults.first }
         ensures output { self.new.output ≡ self.old.output }
         ensures calls { self.new.calls ≡ self.old.calls }
+        ensures access { self.new.access ≡ self.old.access }
         ensures lock { self.new.lock ≡ self.old.lock }
         ensures sets { self.new.sets ≡ self.old.sets }
     {
@@ -114,6 +117,7 @@ impl<'a, R: Files<File = File>, W: Write + Drop> FileSite<'a, R, W> {
         ensures written { OnOk result (is_written_out self.new.calls.events ≡ true) }
         ensures output { WritesOut W.contents self.old.output self.new.output result }
         ensures faults { self.new.faults ≡ self.old.faults }
+        ensures access { self.new.access ≡ self.old.access }
         ensures lock { self.new.lock ≡ self.old.lock }
         ensures sets { self.new.sets ≡ self.old.sets }
     {
@@ -126,6 +130,7 @@ impl<'a, R: Files<File = File>, W: Write + Drop> FileSite<'a, R, W> {
         ensures locked { OnOk result (IsSome self.new.lock) }
         ensures output { self.new.output ≡ self.old.output }
         ensures faults { self.new.faults ≡ self.old.faults }
+        ensures access { self.new.access ≡ self.old.access }
         ensures lock { IsSome self.old.lock → self.new.lock ≡ self.old.lock }
         ensures sets { self.new.sets ≡ self.old.sets }
     {
@@ -144,8 +149,11 @@ impl<'a, R: Files<File = File>, W: Write + Drop> FileSite<'a, R, W> {
         ensures locked { OnOk result (IsSome self.new.lock) }
         ensures output { WritesOut W.contents self.old.output self.new.output result }
         ensures faults { self.new.faults ≡ self.old.faults }
+        ensures access { self.new.access ≡ self.old.access }
         ensures lock { IsSome self.old.lock → self.new.lock ≡ self.old.lock }
         ensures lost { StayLost self.old.sets.items self.new.sets.items }
+        ensures kept { AreLonger self.old.sets.items self.new.sets.items }
+        ensures writes { AreUnwritten self.old.sets.items self.new.sets.items }
     {
         self.write_out()?;
         self.hold()?;
@@ -163,8 +171,11 @@ impl<'a, R: Files<File = File>, W: Write + Drop> FileSite<'a, R, W> {
         ensures output { WritesOut W.contents self.old.output self.new.output result }
         ensures faults { self.new.faults ≡ self.old.faults }
         ensures refused { IsLost self.old.sets.items set → IsErr result }
+        ensures access { self.new.access ≡ self.old.access }
         ensures lock { IsSome self.old.lock → self.new.lock ≡ self.old.lock }
         ensures lost { StayLost self.old.sets.items self.new.sets.items }
+        ensures kept { AreLonger self.old.sets.items self.new.sets.items }
+        ensures writes { AreUnwritten self.old.sets.items self.new.sets.items }
     {
         self.begin(set)?;
         self.sets[usize::from(set)].size(&self.folder)
@@ -175,8 +186,11 @@ impl<'a, R: Files<File = File>, W: Write + Drop> FileSite<'a, R, W> {
         ensures output { WritesOut W.contents self.old.output self.new.output result }
         ensures faults { self.new.faults ≡ self.old.faults }
         ensures refused { IsLost self.old.sets.items set → IsErr result }
+        ensures access { self.new.access ≡ self.old.access }
         ensures lock { IsSome self.old.lock → self.new.lock ≡ self.old.lock }
         ensures lost { StayLost self.old.sets.items self.new.sets.items }
+        ensures kept { AreLonger self.old.sets.items self.new.sets.items }
+        ensures writes { AreUnwritten self.old.sets.items self.new.sets.items }
     {
         self.begin(set)?;
         self.sets[usize::from(set)].reach()
@@ -187,8 +201,11 @@ impl<'a, R: Files<File = File>, W: Write + Drop> FileSite<'a, R, W> {
         ensures output { WritesOut W.contents self.old.output self.new.output result }
         ensures faults { self.new.faults ≡ self.old.faults }
         ensures refused { IsLost self.old.sets.items set → IsErr result }
+        ensures access { self.new.access ≡ self.old.access }
         ensures lock { IsSome self.old.lock → self.new.lock ≡ self.old.lock }
         ensures lost { StayLost self.old.sets.items self.new.sets.items }
+        ensures kept { AreLonger self.old.sets.items self.new.sets.items }
+        ensures writes { AreUnwritten self.old.sets.items self.new.sets.items }
     {
         self.begin(set)?;
         self.sets[usize::from(set)].read_at(&self.folder, at, into)
@@ -201,8 +218,11 @@ impl<'a, R: Files<File = File>, W: Write + Drop> FileSite<'a, R, W> {
         ensures faults { self.new.faults ≡ self.old.faults }
         ensures refused { IsLost self.old.sets.items set → IsErr result }
         ensures wrote { OnOk result (from.now ≢ [] → HasWritten self.new.sets.items set at from.now) }
+        ensures access { self.new.access ≡ self.old.access }
         ensures lock { IsSome self.old.lock → self.new.lock ≡ self.old.lock }
         ensures lost { StayLost self.old.sets.items self.new.sets.items }
+        ensures kept { AreLonger self.old.sets.items self.new.sets.items }
+        ensures writes { WriteOnce self.old.sets.items self.new.sets.items set at from.now }
     {
         self.begin(set)?;
         self.sets[usize::from(set)].write_at(&self.folder, at, from)
@@ -214,8 +234,11 @@ impl<'a, R: Files<File = File>, W: Write + Drop> FileSite<'a, R, W> {
         ensures faults { self.new.faults ≡ self.old.faults }
         ensures refused { IsLost self.old.sets.items set → IsErr result }
         ensures synced { OnOk result (IsSynced self.new.sets.items set) }
+        ensures access { self.new.access ≡ self.old.access }
         ensures lock { IsSome self.old.lock → self.new.lock ≡ self.old.lock }
         ensures lost { StayLost self.old.sets.items self.new.sets.items }
+        ensures kept { AreLonger self.old.sets.items self.new.sets.items }
+        ensures writes { AreUnwritten self.old.sets.items self.new.sets.items }
     {
         self.begin(set)?;
         self.sets[usize::from(set)].sync(&self.folder)
@@ -237,6 +260,8 @@ fn reach_set(
     requires { AreNumbered sets.old.items }
     ensures place { OnOk result (set < vec_len sets.new) }
     ensures lost { StayLost sets.old.items sets.new.items }
+    ensures kept { AreLonger sets.old.items sets.new.items }
+    ensures writes { AreUnwritten sets.old.items sets.new.items }
     ensures numbered { AreNumbered sets.new.items }
 {
     while sets.len() <= usize::from(set) {
@@ -272,9 +297,13 @@ impl<R: Files<File = File>, W: Write + Drop> Site for FileSite<'_, R, W> {
         ensures length { IfOk result (λ n. HasLength self.new.sets.items set n) }
         ensures cause { Counts self.old.faults.count self.new.faults.count result }
         ensures output { WritesOut W.contents self.old.output self.new.output result }
+        ensures locked { OnOk result (IsSome self.new.lock) }
         ensures refused { IsLost self.old.sets.items set → IsErr result }
+        ensures access { self.new.access ≡ self.old.access }
         ensures lock { IsSome self.old.lock → self.new.lock ≡ self.old.lock }
         ensures lost { StayLost self.old.sets.items self.new.sets.items }
+        ensures kept { AreLonger self.old.sets.items self.new.sets.items }
+        ensures writes { AreUnwritten self.old.sets.items self.new.sets.items }
     {
         match self.try_size(set) {
             Ok(length) => Ok(length),
@@ -286,9 +315,13 @@ impl<R: Files<File = File>, W: Write + Drop> Site for FileSite<'_, R, W> {
         requires { _end ≤ 2 ^ 62 }
         ensures cause { Counts self.old.faults.count self.new.faults.count result }
         ensures output { WritesOut W.contents self.old.output self.new.output result }
+        ensures locked { OnOk result (IsSome self.new.lock) }
         ensures refused { IsLost self.old.sets.items set → IsErr result }
+        ensures access { self.new.access ≡ self.old.access }
         ensures lock { IsSome self.old.lock → self.new.lock ≡ self.old.lock }
         ensures lost { StayLost self.old.sets.items self.new.sets.items }
+        ensures kept { AreLonger self.old.sets.items self.new.sets.items }
+        ensures writes { AreUnwritten self.old.sets.items self.new.sets.items }
     {
         match self.try_reach(set) {
             Ok(()) => Ok(()),
@@ -299,9 +332,13 @@ impl<R: Files<File = File>, W: Write + Drop> Site for FileSite<'_, R, W> {
     fn read_at(&mut self, set: u16, at: u64, into: &mut [u8]) -> Result<(), Failed>
         ensures cause { Counts self.old.faults.count self.new.faults.count result }
         ensures output { WritesOut W.contents self.old.output self.new.output result }
+        ensures locked { OnOk result (IsSome self.new.lock) }
         ensures refused { IsLost self.old.sets.items set → IsErr result }
+        ensures access { self.new.access ≡ self.old.access }
         ensures lock { IsSome self.old.lock → self.new.lock ≡ self.old.lock }
         ensures lost { StayLost self.old.sets.items self.new.sets.items }
+        ensures kept { AreLonger self.old.sets.items self.new.sets.items }
+        ensures writes { AreUnwritten self.old.sets.items self.new.sets.items }
     {
         match self.try_read(set, at, into) {
             Ok(()) => Ok(()),
@@ -313,10 +350,14 @@ impl<R: Files<File = File>, W: Write + Drop> Site for FileSite<'_, R, W> {
         requires { at + length from.now ≤ 2 ^ 62 }
         ensures cause { Counts self.old.faults.count self.new.faults.count result }
         ensures output { WritesOut W.contents self.old.output self.new.output result }
+        ensures locked { OnOk result (IsSome self.new.lock) }
         ensures refused { IsLost self.old.sets.items set → IsErr result }
         ensures wrote { OnOk result (from.now ≢ [] → HasWritten self.new.sets.items set at from.now) }
+        ensures access { self.new.access ≡ self.old.access }
         ensures lock { IsSome self.old.lock → self.new.lock ≡ self.old.lock }
         ensures lost { StayLost self.old.sets.items self.new.sets.items }
+        ensures kept { AreLonger self.old.sets.items self.new.sets.items }
+        ensures writes { WriteOnce self.old.sets.items self.new.sets.items set at from.now }
     {
         match self.try_write(set, at, from) {
             Ok(()) => Ok(()),
@@ -327,10 +368,14 @@ impl<R: Files<File = File>, W: Write + Drop> Site for FileSite<'_, R, W> {
     fn sync(&mut self, set: u16) -> Result<(), Failed>
         ensures cause { Counts self.old.faults.count self.new.faults.count result }
         ensures output { WritesOut W.contents self.old.output self.new.output result }
+        ensures locked { OnOk result (IsSome self.new.lock) }
         ensures refused { IsLost self.old.sets.items set → IsErr result }
         ensures synced { OnOk result (IsSynced self.new.sets.items set) }
+        ensures access { self.new.access ≡ self.old.access }
         ensures lock { IsSome self.old.lock → self.new.lock ≡ self.old.lock }
         ensures lost { StayLost self.old.sets.items self.new.sets.items }
+        ensures kept { AreLonger self.old.sets.items self.new.sets.items }
+        ensures writes { AreUnwritten self.old.sets.items self.new.sets.items }
     {
         match self.try_sync(set) {
             Ok(()) => Ok(()),
@@ -341,6 +386,7 @@ impl<R: Files<File = File>, W: Write + Drop> Site for FileSite<'_, R, W> {
     fn send(&mut self, text: &[u8]) -> Result<(), Failed>
         ensures cause { Counts self.old.faults.count self.new.faults.count result }
         ensures sent { Gathers W.contents self.old.output self.new.output result text.now }
+        ensures access { self.new.access ≡ self.old.access }
         ensures lock { self.new.lock ≡ self.old.lock }
         ensures sets { self.new.sets ≡ self.old.sets }
     {

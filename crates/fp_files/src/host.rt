@@ -2,9 +2,9 @@
 //! then notes it. That it makes the call that it notes has to be read: no clause can say so.
 //!
 //! A data set's file is read, written and made only behind the lock of its folder, which a list of calls tells.
-ghost use Rattle.fp_files.specs.Calls.{is_alone, is_locked};
+ghost use Rattle.fp_files.specs.Calls.{IsLonger, is_alone, is_locked};
 ghost use Rattle.fp_files.specs.inside.Calls.{access_of, part_of};
-ghost use Rattle.fp_files.specs.Calls.HostCall.{FolderSynced, Locked, Made, Measured, PartRead, Read, Rewrote, RewroteSome, Sent, Synced, WroteOut, Wrote};
+ghost use Rattle.fp_files.specs.Calls.HostCall.{FolderSynced, Locked, Made, Measured, PartRead, Read, Rewrote, RewroteSome, Sent, Synced, WroteOut, Wrote, WroteSome};
 ghost use Rattle.fp_files.specs.Output.{Gathers, WritesOut};
 ghost use Rattle.std.specs.Option.{ForSome};
 ghost use Rattle.std.specs.Prelude.{◌≡◌, ◌≤◌, ◌∷◌, [], IfOk, OnErr, OnOk, length, true};
@@ -44,29 +44,41 @@ const WROTE_OUT: u64 = 9;
 
 const REWROTE_SOME: u64 = 10;
 
-const MEASURED: u64 = 11;
+const WROTE_SOME: u64 = 11;
+
+const MEASURED: u64 = 12;
 
 // How many bytes a rewrite reads and writes at once. Freeing a block as large as this also has the system's allocator
 // keep as much for later, so that a restart doesn't give back and take again the memory of each group.
 const BLOCK: u64 = 1 << 20;
 
-/// Writes all of `from` at offset `at`. It is noted also where it fails, since some bytes may be written.
+/// Writes all of `from` at offset `at`. Where it fails, some bytes may be written.
 pub(crate) fn write(file: &SetFile, calls: &mut Record, at: u64, from: &[u8]) -> io::Result<()>
     requires { is_alone calls.old.events ≡ true }
-    ensures { calls.new.events ≡ Wrote at from.now ∷ calls.old.events }
+    ensures ok { OnOk result (calls.new.events ≡ Wrote at from.now ∷ calls.old.events) }
+    ensures err { OnErr result (calls.new.events ≡ WroteSome at from.now ∷ calls.old.events) }
+    ensures kept { IsLonger calls.old.events calls.new.events }
 {
-    let answer = file.file.write_all_at(from, at);
-    calls.note(&[WROTE, at], from);
-    answer
+    match file.file.write_all_at(from, at) {
+        Ok(()) => {
+            calls.add(&[WROTE, at], from);
+            Ok(())
+        }
+        Err(error) => {
+            calls.add(&[WROTE_SOME, at], from);
+            Err(error)
+        }
+    }
 }
 
 /// Fills `into` with the bytes of a file from offset `at` on.
 pub(crate) fn read(file: &SetFile, calls: &mut Record, at: u64, into: &mut [u8]) -> io::Result<()>
     requires { is_locked calls.old.events ≡ true }
-    ensures { calls.new.events ≡ Read ∷ calls.old.events }
+    ensures noted { calls.new.events ≡ Read ∷ calls.old.events }
+    ensures kept { IsLonger calls.old.events calls.new.events }
 {
     let answer = file.file.read_exact_at(into, at);
-    calls.note(&[READ], &[]);
+    calls.add(&[READ], &[]);
     answer
 }
 
@@ -74,9 +86,10 @@ pub(crate) fn read(file: &SetFile, calls: &mut Record, at: u64, into: &mut [u8])
 pub(crate) fn length(file: &SetFile, calls: &mut Record) -> io::Result<u64>
     ensures ok { IfOk result (λ n. calls.new.events ≡ Measured n ∷ calls.old.events) }
     ensures err { OnErr result (calls.new.events ≡ calls.old.events) }
+    ensures kept { IsLonger calls.old.events calls.new.events }
 {
     let length = folder::metadata(&file.file)?.len();
-    calls.note(&[MEASURED, length], &[]);
+    calls.add(&[MEASURED, length], &[]);
     Ok(length)
 }
 
@@ -84,9 +97,10 @@ pub(crate) fn length(file: &SetFile, calls: &mut Record) -> io::Result<u64>
 pub(crate) fn sync(file: &SetFile, calls: &mut Record) -> io::Result<()>
     ensures ok { OnOk result (calls.new.events ≡ Synced ∷ calls.old.events) }
     ensures err { OnErr result (calls.new.events ≡ calls.old.events) }
+    ensures kept { IsLonger calls.old.events calls.new.events }
 {
     file.file.sync_all()?;
-    calls.note(&[SYNCED], &[]);
+    calls.add(&[SYNCED], &[]);
     Ok(())
 }
 
@@ -101,14 +115,15 @@ pub(crate) fn rewrite(
     requires { is_alone calls.old.events ≡ true }
     ensures ok { OnOk result (calls.new.events ≡ Rewrote length ∷ calls.old.events) }
     ensures err { OnErr result (calls.new.events ≡ RewroteSome ∷ calls.old.events) }
+    ensures kept { IsLonger calls.old.events calls.new.events }
 {
     match write_back(alloc, &file.file, length) {
         Ok(()) => {
-            calls.note(&[REWROTE, length], &[]);
+            calls.add(&[REWROTE, length], &[]);
             Ok(())
         }
         Err(error) => {
-            calls.note(&[REWROTE_SOME], &[]);
+            calls.add(&[REWROTE_SOME], &[]);
             Err(error)
         }
     }
@@ -143,9 +158,10 @@ pub(crate) fn sync_folder<R: Files<File = File>>(
 ) -> io::Result<()>
     ensures ok { OnOk result (calls.new.events ≡ FolderSynced ∷ calls.old.events) }
     ensures err { OnErr result (calls.new.events ≡ calls.old.events) }
+    ensures kept { IsLonger calls.old.events calls.new.events }
 {
     folder.sync()?;
-    calls.note(&[FOLDER_SYNCED], &[]);
+    calls.add(&[FOLDER_SYNCED], &[]);
     Ok(())
 }
 
@@ -182,10 +198,11 @@ impl SetFile {
         ensures set { IfOk result (λ made. made.set ≡ set) }
         ensures ok { OnOk result (calls.new.events ≡ Made ∷ calls.old.events) }
         ensures err { OnErr result (calls.new.events ≡ calls.old.events) }
+        ensures kept { IsLonger calls.old.events calls.new.events }
     {
         let name = data_set::name_of(folder.alloc(), set)?;
         let file = folder.make(&name)?;
-        calls.note(&[MADE], &[]);
+        calls.add(&[MADE], &[]);
         Ok(SetFile { set, file })
     }
 
@@ -216,7 +233,7 @@ impl Lock {
     {
         let file = folder.lock(access)?;
         let mut calls = Record::new();
-        calls.note(&[LOCKED, access_number(access)], &[]);
+        calls.add(&[LOCKED, access_number(access)], &[]);
         Ok(Lock {
             file,
             access,
@@ -236,7 +253,7 @@ impl Lock {
         ensures { result.events ≡ self.now.calls.events }
     {
         let mut calls = Record::new();
-        calls.note(&[LOCKED, access_number(self.access)], &[]);
+        calls.add(&[LOCKED, access_number(self.access)], &[]);
         calls
     }
 }
@@ -278,7 +295,7 @@ impl PartFile {
         ensures part { self.new.part ≡ self.old.part }
     {
         let count = folder::read(&mut self.file, into)?;
-        calls.note(&[PART_READ, number_of(self.part), count as u64], &[]);
+        calls.add(&[PART_READ, number_of(self.part), count as u64], &[]);
         Ok(count)
     }
 }
@@ -306,7 +323,7 @@ pub(crate) fn send<W: Write + Drop>(
     ensures noted { calls.new.events ≡ Sent ∷ calls.old.events }
 {
     let answer = output.write_all(text);
-    calls.note(&[SENT], &[]);
+    calls.add(&[SENT], &[]);
     answer
 }
 
@@ -320,6 +337,6 @@ pub(crate) fn write_out<W: Write + Drop>(
     ensures err { OnErr result (calls.new.events ≡ calls.old.events) }
 {
     output.flush()?;
-    calls.note(&[WROTE_OUT], &[]);
+    calls.add(&[WROTE_OUT], &[]);
     Ok(())
 }

@@ -1,5 +1,5 @@
 //! A list of calls of the system that only clauses read.
-ghost use Rattle.fp_files.specs.Calls.{HostCall};
+ghost use Rattle.fp_files.specs.Calls.{HostCall, IsLonger};
 ghost use Rattle.fp_files.specs.inside.Calls.{call_of};
 ghost use Rattle.std.specs.Borrow.{ftrue};
 ghost use Rattle.std.specs.Prelude.{◌≡◌, [], ◌∷◌, List};
@@ -27,8 +27,16 @@ impl Record {
         }
     }
 
-    /// Notes the call of these numbers and bytes.
-    pub(crate) fn note(&mut self, _numbers: &[u64], _bytes: &[u8])
+    /// Notes the call of these numbers and bytes, behind those that were made.
+    pub(crate) fn add(&mut self, numbers: &[u64], bytes: &[u8])
+        ensures noted { self.new.events ≡ call_of numbers.now bytes.now ∷ self.old.events }
+        ensures kept { IsLonger self.old.events self.new.events }
+    {
+        self.note(numbers, bytes);
+    }
+
+    // Notes the call of these numbers and bytes.
+    fn note(&mut self, _numbers: &[u64], _bytes: &[u8])
         ensures { self.new.events ≡ call_of _numbers.now _bytes.now ∷ self.old.events }
     {}
 }

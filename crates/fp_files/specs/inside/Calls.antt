@@ -4,7 +4,7 @@ use Rattle.fp_source.specs.declared.part.Part.{Part}
 use Rattle.fp_files.specs.declared.folder.Access.{Access}
 use Rattle.fp_files.specs.declared.folder.Access.TheVariants.{Change, Look}
 use Rattle.fp_source.specs.declared.part.Part.TheVariants.{Definitions, Scripts, Schedule, Messages}
-use Rattle.fp_files.specs.Calls.{HostCall, Wrote, Synced, Measured, Rewrote, RewroteSome, FolderSynced, Made, Locked, Read, PartRead, Sent, WroteOut, is_synced, is_named, is_settled, is_locked, is_alone, known_length}
+use Rattle.fp_files.specs.Calls.{HostCall, Wrote, WroteSome, Synced, Measured, Rewrote, RewroteSome, FolderSynced, Made, Locked, Read, PartRead, Sent, WroteOut, IsLonger, is_synced, owes_sync, is_named, is_settled, is_locked, is_alone, known_length, writes_of}
 
 -- the part of a number
 abbrev pub part_of : ℕ → Part
@@ -34,13 +34,17 @@ call_of numbers bytes =
     if slice_index numbers 0 == 8 then Sent else
     if slice_index numbers 0 == 9 then WroteOut else
     if slice_index numbers 0 == 10 then RewroteSome else
+    if slice_index numbers 0 == 11 then WroteSome (slice_index numbers 1) bytes else
     Measured (slice_index numbers 1)
 
 -- what reads of a file leave of what was known of the calls before
 pub record OnlyReads (old new : List HostCall) : Type 0 where
+  pub kept : IsLonger old new
   pub synced : is_synced new ≡ is_synced old
+  pub owes : owes_sync new ≡ owes_sync old
   pub named : is_named new ≡ is_named old
   pub settled : is_settled new ≡ is_settled old
   pub locked : is_locked new ≡ is_locked old
   pub alone : is_alone new ≡ is_alone old
   pub length : known_length new ≡ known_length old
+  pub writes : writes_of new ≡ writes_of old
