@@ -260,6 +260,10 @@ def stop_on_signals(desk: Desk) -> None:
 
 def main(arguments) -> int:
     """Serves a folder. The status of the script."""
+    if arguments.terminal and not NAME.fullmatch(arguments.terminal):
+        print(f"desk: {arguments.terminal} is no terminal's name: 1 to 8 letters A to Z and digits, a letter first",
+              file=sys.stderr)
+        return 2
     try:
         desk = Desk(Bank(arguments.program, arguments.folder), arguments.gather / 1000)
         stop_on_signals(desk)
