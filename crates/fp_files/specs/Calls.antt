@@ -31,6 +31,8 @@ pub data HostCall : Type 0 where
   Sent : HostCall
   -- all text that was taken in was written to the output
   WroteOut : HostCall
+  -- no call of the system: the calls behind it are of the data set of this number
+  OfSet : ℕ → HostCall
 
 -- the newest call
 abbrev pub newest : List HostCall → Option HostCall
@@ -121,6 +123,11 @@ numbered (call ∷ earlier) n = if n == length earlier then Some call else numbe
 -- Each call of the old list has the same number in the new one: these are the old ones, and others behind them.
 abbrev pub IsLonger : List HostCall → List HostCall → Type 0
 IsLonger old new = (n : ℕ) (call : HostCall) → numbered old n ≡ Some call → numbered new n ≡ Some call
+
+-- The calls are of this data set: that is noted directly behind the lock, under number 1. It stays so where others come
+-- behind them.
+abbrev pub AreOf : ℕ → List HostCall → Type 0
+AreOf set calls = numbered calls 1 ≡ Some (OfSet set)
 
 -- the writes among some calls, but for those of a rewrite
 abbrev pub writes_of : List HostCall → List HostCall

@@ -1,5 +1,5 @@
 //! Bytes of a file that were read before they were asked for.
-ghost use Rattle.fp_files.specs.Calls.{is_locked};
+ghost use Rattle.fp_files.specs.Calls.{AreOf, is_locked};
 ghost use Rattle.fp_files.specs.inside.Calls.{OnlyReads};
 ghost use Rattle.std.specs.Prelude.{◌≡◌, ◌≤◌, [], length, true};
 
@@ -46,7 +46,8 @@ impl Ahead {
         at: u64,
         into: &mut [u8],
     ) -> io::Result<()>
-        requires { is_locked calls.old.events ≡ true }
+        requires locked { is_locked calls.old.events ≡ true }
+        requires of { AreOf file.now.set calls.old.events }
         ensures { OnlyReads calls.old.events calls.new.events }
     {
         let count = self.copy(at, into);
@@ -87,7 +88,8 @@ impl Ahead {
 
     // Reads a block of the file from offset `at` on, up to its end. None where there is no memory for it.
     fn fill(&mut self, file: &SetFile, calls: &mut Record, length: u64, at: u64) -> io::Result<()>
-        requires { is_locked calls.old.events ≡ true }
+        requires locked { is_locked calls.old.events ≡ true }
+        requires of { AreOf file.now.set calls.old.events }
         ensures { OnlyReads calls.old.events calls.new.events }
     {
         let count = length.saturating_sub(at).min(BLOCK as u64) as usize;

@@ -11,7 +11,7 @@ ghost use Rattle.std.specs.Prelude.{◌≡◌, ◌++◌, ◌∷◌, ◌≤◌, �
 ghost use Rattle.std.specs.Fmt.{decimal};
 ghost use Rattle.std.specs.Option.{ForSome};
 ghost use Rattle.std.specs.String.{string_bytes};
-ghost use Rattle.fp_files.specs.Calls.{IsLonger, WritesOnce, is_alone, is_locked, is_named, is_settled, is_synced, known_length, newest, owes_sync, writes_of};
+ghost use Rattle.fp_files.specs.Calls.{AreOf, IsLonger, WritesOnce, is_alone, is_locked, is_named, is_settled, is_synced, known_length, newest, owes_sync, writes_of};
 ghost use Rattle.fp_files.specs.Calls.HostCall.{Made, Measured, Rewrote, Synced, Wrote};
 ghost use Rattle.fp_files.specs.Files.{data_set_name};
 ghost use Rattle.fp_files.specs.declared.folder.Access.{Access};
@@ -49,6 +49,8 @@ pub(crate) struct DataSet {
     calls: Record,
     // Its file was opened or made by its name.
     ghost of_set: { ForSome file (λ opened. opened.set ≡ set) },
+    // They are of this data set.
+    ghost of: { AreOf set calls.events },
     // Each of them came behind the lock of the folder.
     ghost locked: { is_locked calls.events ≡ true },
     // That lock keeps every other program out, where the data set may be changed.
@@ -100,7 +102,7 @@ impl DataSet {
             ahead: Ahead::new(alloc),
             has_durable_name: false,
             is_lost: false,
-            calls: lock.calls(),
+            calls: lock.calls(set),
         }
     }
 
@@ -294,7 +296,8 @@ impl DataSet {
 
     // Rewrites and syncs a file that may be changed. One that is only looked at stays as it is.
     fn settle(&mut self, alloc: Global, file: &SetFile) -> Result<(), Cause>
-        requires { self.old.length ≡ None }
+        requires length { self.old.length ≡ None }
+        requires of { file.now.set ≡ self.old.set }
         ensures settled { OnOk result (self.new.access ≡ Access.Change → is_settled self.new.calls.events ≡ true) }
         ensures failed { OnErr result (self.new.is_lost ≡ true) }
         ensures usable { self.old.is_lost ≡ false → OnOk result (self.new.is_lost ≡ false) }
@@ -344,7 +347,8 @@ fn lost(set: u16) -> Cause {
 
 // Writes the bytes of a file back where they are, and makes them durable.
 fn settle(alloc: Global, file: &SetFile, calls: &mut Record) -> Result<(), Cause>
-    requires { is_alone calls.old.events ≡ true }
+    requires alone { is_alone calls.old.events ≡ true }
+    requires of { AreOf file.now.set calls.old.events }
     ensures ok { OnOk result ((n : ℕ) × (calls.new.events ≡ Synced ∷ Rewrote n ∷ Measured n ∷ calls.old.events)) }
     ensures settled { is_settled calls.old.events ≡ true → is_settled calls.new.events ≡ true }
     ensures named { is_named calls.new.events ≡ is_named calls.old.events }
@@ -363,6 +367,7 @@ fn settle(alloc: Global, file: &SetFile, calls: &mut Record) -> Result<(), Cause
 
 // The length of a file.
 fn length_of(file: &SetFile, calls: &mut Record, set: u16) -> Result<u64, Cause>
+    requires { AreOf file.now.set calls.old.events }
     ensures ok { IfOk result (λ n. calls.new.events ≡ Measured n ∷ calls.old.events) }
     ensures err { OnErr result (calls.new.events ≡ calls.old.events) }
     ensures kept { IsLonger calls.old.events calls.new.events }
@@ -393,7 +398,8 @@ fn made<R: Files<File = File>>(
     calls: &mut Record,
     set: u16,
 ) -> Result<SetFile, Cause>
-    requires { is_alone calls.old.events ≡ true }
+    requires alone { is_alone calls.old.events ≡ true }
+    requires of { AreOf set calls.old.events }
     ensures of { IfOk result (λ file. file.set ≡ set) }
     ensures ok { OnOk result (calls.new.events ≡ Made ∷ calls.old.events) }
     ensures err { OnErr result (calls.new.events ≡ calls.old.events) }

@@ -1,10 +1,11 @@
 //! The calls of the system on which clauses rest. Each function makes one call, or a rewrite's reads and writes, and
 //! then notes it. That it makes the call that it notes has to be read: no clause can say so.
 //!
-//! A data set's file is read, written and made only behind the lock of its folder, which a list of calls tells.
-ghost use Rattle.fp_files.specs.Calls.{IsLonger, is_alone, is_locked};
+//! A data set's file is read, written and made only behind the lock of its folder, which a list of calls tells. The list
+//! also tells which data set it is of, and only calls on the file of that one are noted on it.
+ghost use Rattle.fp_files.specs.Calls.{AreOf, IsLonger, is_alone, is_locked};
 ghost use Rattle.fp_files.specs.inside.Calls.{access_of, part_of};
-ghost use Rattle.fp_files.specs.Calls.HostCall.{FolderSynced, Locked, Made, Measured, PartRead, Read, Rewrote, RewroteSome, Sent, Synced, WroteOut, Wrote, WroteSome};
+ghost use Rattle.fp_files.specs.Calls.HostCall.{FolderSynced, Locked, Made, Measured, OfSet, PartRead, Read, Rewrote, RewroteSome, Sent, Synced, WroteOut, Wrote, WroteSome};
 ghost use Rattle.fp_files.specs.Output.{Gathers, WritesOut};
 ghost use Rattle.std.specs.Option.{ForSome};
 ghost use Rattle.std.specs.Prelude.{◌≡◌, ◌≤◌, ◌∷◌, [], IfOk, OnErr, OnOk, length, true};
@@ -48,13 +49,16 @@ const WROTE_SOME: u64 = 11;
 
 const MEASURED: u64 = 12;
 
+const OF_SET: u64 = 13;
+
 // How many bytes a rewrite reads and writes at once. Freeing a block as large as this also has the system's allocator
 // keep as much for later, so that a restart doesn't give back and take again the memory of each group.
 const BLOCK: u64 = 1 << 20;
 
 /// Writes all of `from` at offset `at`. Where it fails, some bytes may be written.
 pub(crate) fn write(file: &SetFile, calls: &mut Record, at: u64, from: &[u8]) -> io::Result<()>
-    requires { is_alone calls.old.events ≡ true }
+    requires alone { is_alone calls.old.events ≡ true }
+    requires of { AreOf file.now.set calls.old.events }
     ensures ok { OnOk result (calls.new.events ≡ Wrote at from.now ∷ calls.old.events) }
     ensures err { OnErr result (calls.new.events ≡ WroteSome at from.now ∷ calls.old.events) }
     ensures kept { IsLonger calls.old.events calls.new.events }
@@ -73,7 +77,8 @@ pub(crate) fn write(file: &SetFile, calls: &mut Record, at: u64, from: &[u8]) ->
 
 /// Fills `into` with the bytes of a file from offset `at` on.
 pub(crate) fn read(file: &SetFile, calls: &mut Record, at: u64, into: &mut [u8]) -> io::Result<()>
-    requires { is_locked calls.old.events ≡ true }
+    requires locked { is_locked calls.old.events ≡ true }
+    requires of { AreOf file.now.set calls.old.events }
     ensures noted { calls.new.events ≡ Read ∷ calls.old.events }
     ensures kept { IsLonger calls.old.events calls.new.events }
 {
@@ -84,6 +89,7 @@ pub(crate) fn read(file: &SetFile, calls: &mut Record, at: u64, into: &mut [u8])
 
 /// The length of a file.
 pub(crate) fn length(file: &SetFile, calls: &mut Record) -> io::Result<u64>
+    requires { AreOf file.now.set calls.old.events }
     ensures ok { IfOk result (λ n. calls.new.events ≡ Measured n ∷ calls.old.events) }
     ensures err { OnErr result (calls.new.events ≡ calls.old.events) }
     ensures kept { IsLonger calls.old.events calls.new.events }
@@ -95,6 +101,7 @@ pub(crate) fn length(file: &SetFile, calls: &mut Record) -> io::Result<u64>
 
 /// Syncs a file.
 pub(crate) fn sync(file: &SetFile, calls: &mut Record) -> io::Result<()>
+    requires { AreOf file.now.set calls.old.events }
     ensures ok { OnOk result (calls.new.events ≡ Synced ∷ calls.old.events) }
     ensures err { OnErr result (calls.new.events ≡ calls.old.events) }
     ensures kept { IsLonger calls.old.events calls.new.events }
@@ -112,7 +119,8 @@ pub(crate) fn rewrite(
     calls: &mut Record,
     length: u64,
 ) -> io::Result<()>
-    requires { is_alone calls.old.events ≡ true }
+    requires alone { is_alone calls.old.events ≡ true }
+    requires of { AreOf file.now.set calls.old.events }
     ensures ok { OnOk result (calls.new.events ≡ Rewrote length ∷ calls.old.events) }
     ensures err { OnErr result (calls.new.events ≡ RewroteSome ∷ calls.old.events) }
     ensures kept { IsLonger calls.old.events calls.new.events }
@@ -194,7 +202,8 @@ impl SetFile {
         calls: &mut Record,
         set: u16,
     ) -> io::Result<SetFile>
-        requires { is_alone calls.old.events ≡ true }
+        requires alone { is_alone calls.old.events ≡ true }
+        requires of { AreOf set calls.old.events }
         ensures set { IfOk result (λ made. made.set ≡ set) }
         ensures ok { OnOk result (calls.new.events ≡ Made ∷ calls.old.events) }
         ensures err { OnErr result (calls.new.events ≡ calls.old.events) }
@@ -248,12 +257,14 @@ impl Lock {
         self.access
     }
 
-    /// A list of calls that come behind this lock.
-    pub(crate) fn calls(&self) -> Record
-        ensures { result.events ≡ self.now.calls.events }
+    /// A list of calls of a data set that come behind this lock.
+    pub(crate) fn calls(&self, set: u16) -> Record
+        ensures events { result.events ≡ OfSet set ∷ self.now.calls.events }
+        ensures of { AreOf set result.events }
     {
         let mut calls = Record::new();
         calls.add(&[LOCKED, access_number(self.access)], &[]);
+        calls.add(&[OF_SET, u64::from(set)], &[]);
         calls
     }
 }

@@ -4,7 +4,7 @@ use Rattle.fp_source.specs.declared.part.Part.{Part}
 use Rattle.fp_files.specs.declared.folder.Access.{Access}
 use Rattle.fp_files.specs.declared.folder.Access.TheVariants.{Change, Look}
 use Rattle.fp_source.specs.declared.part.Part.TheVariants.{Definitions, Scripts, Schedule, Messages}
-use Rattle.fp_files.specs.Calls.{HostCall, Wrote, WroteSome, Synced, Measured, Rewrote, RewroteSome, FolderSynced, Made, Locked, Read, PartRead, Sent, WroteOut, IsLonger, is_synced, owes_sync, is_named, is_settled, is_locked, is_alone, known_length, writes_of}
+use Rattle.fp_files.specs.Calls.{HostCall, Wrote, WroteSome, Synced, Measured, Rewrote, RewroteSome, FolderSynced, Made, Locked, Read, PartRead, Sent, WroteOut, OfSet, IsLonger, is_synced, owes_sync, is_named, is_settled, is_locked, is_alone, known_length, writes_of}
 
 -- the part of a number
 abbrev pub part_of : ℕ → Part
@@ -35,7 +35,8 @@ call_of numbers bytes =
     if slice_index numbers 0 == 9 then WroteOut else
     if slice_index numbers 0 == 10 then RewroteSome else
     if slice_index numbers 0 == 11 then WroteSome (slice_index numbers 1) bytes else
-    Measured (slice_index numbers 1)
+    if slice_index numbers 0 == 12 then Measured (slice_index numbers 1) else
+    OfSet (slice_index numbers 1)
 
 -- what reads of a file leave of what was known of the calls before
 pub record OnlyReads (old new : List HostCall) : Type 0 where
