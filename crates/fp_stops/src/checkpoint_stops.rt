@@ -123,27 +123,52 @@ fn keeps_at_stop(alloc: Global, stop: u64, first: &Defs, second: &Defs) -> Resul
     let mut site = MemorySite::stopping(alloc, stop)?;
     let sure = write_two(alloc, &mut site, first, second)?;
     for choice in 0..8 {
-        let mut left = MemorySite::from_snapshot(alloc, site.snapshot_as(choice)?, &[])?;
-        if !keeps(alloc, &mut left, first, sure) {
+        if !image_keeps(alloc, &site, choice, first, sure)? {
             return Ok(false);
         }
     }
     Ok(true)
 }
 
+/// Whether this image that a crash may leave keeps so many checkpoints.
+fn image_keeps(
+    alloc: Global,
+    site: &MemorySite,
+    choice: u64,
+    defs: &Defs,
+    sure: u64,
+) -> Result<bool, AllocError> {
+    let mut left = MemorySite::from_snapshot(alloc, site.snapshot_as(choice)?, &[])?;
+    Ok(keeps(alloc, &mut left, defs, sure))
+}
+
 /// The two checkpoints make 34 calls.
 const CALLS: u64 = 36;
+
+/// The first stop behind which a crash may lose what was sure.
+fn first_stop_that_loses(
+    alloc: Global,
+    first: &Defs,
+    second: &Defs,
+) -> Result<Option<u64>, AllocError>
+    requires first { AreDefs first.now }
+    requires second { AreDefs second.now }
+{
+    for stop in 0..CALLS {
+        if !keeps_at_stop(alloc, stop, first, second)? {
+            return Ok(Some(stop));
+        }
+    }
+    Ok(None)
+}
 
 #[test]
 fn every_stop_keeps_the_newest(rt: HostRuntime) -> Result<(), Fail> {
     let first = defs_of(rt.alloc(), &[NOTES, FIRST])?;
     let second = defs_of(rt.alloc(), &[NOTES, SECOND])?;
-    for stop in 0..CALLS {
-        assert!(rt;
-            keeps_at_stop(rt.alloc(), stop, &first, &second)?,
-            "stop {stop}"
-        );
-    }
+    let lost = first_stop_that_loses(rt.alloc(), &first, &second)?;
+    let stop = lost.unwrap_or(0);
+    assert!(rt; lost.is_none(), "stop {stop}");
     Ok(())
 }
 
@@ -159,30 +184,51 @@ fn keeps_at_failure(
 {
     let mut site = MemorySite::new(alloc, &[call])?;
     let sure = write_two(alloc, &mut site, first, second)?;
-    let mut left = MemorySite::from_snapshot(alloc, site.snapshot_as(1)?, &[])?;
-    Ok(keeps(alloc, &mut left, first, sure))
+    image_keeps(alloc, &site, 1, first, sure)
+}
+
+/// The first call that loses what was sure where it fails alone.
+fn first_failure_that_loses(
+    alloc: Global,
+    first: &Defs,
+    second: &Defs,
+) -> Result<Option<u64>, AllocError>
+    requires first { AreDefs first.now }
+    requires second { AreDefs second.now }
+{
+    for call in 0..CALLS {
+        if !keeps_at_failure(alloc, call, first, second)? {
+            return Ok(Some(call));
+        }
+    }
+    Ok(None)
 }
 
 #[test]
 fn every_failed_call_keeps_the_newest(rt: HostRuntime) -> Result<(), Fail> {
     let first = defs_of(rt.alloc(), &[NOTES, FIRST])?;
     let second = defs_of(rt.alloc(), &[NOTES, SECOND])?;
-    for call in 0..CALLS {
-        assert!(rt;
-            keeps_at_failure(rt.alloc(), call, &first, &second)?,
-            "call {call}"
-        );
-    }
+    let lost = first_failure_that_loses(rt.alloc(), &first, &second)?;
+    let call = lost.unwrap_or(0);
+    assert!(rt; lost.is_none(), "call {call}");
     Ok(())
+}
+
+/// Whether two checkpoints on a new site are both sure, and the second is the newest.
+fn both_are_sure(alloc: Global, first: &Defs, second: &Defs) -> Result<bool, AllocError>
+    requires first { AreDefs first.now }
+    requires second { AreDefs second.now }
+{
+    let mut site = MemorySite::new(alloc, &[])?;
+    let sure = write_two(alloc, &mut site, first, second)?;
+    Ok(sure == 2 && newest_number(alloc, &mut site, second) == Some(2))
 }
 
 #[test]
 fn without_a_fault_both_are_sure(rt: HostRuntime) -> Result<(), Fail> {
     let first = defs_of(rt.alloc(), &[NOTES, FIRST])?;
     let second = defs_of(rt.alloc(), &[NOTES, SECOND])?;
-    let mut site = MemorySite::new(rt.alloc(), &[])?;
-    assert!(rt; write_two(rt.alloc(), &mut site, &first, &second)? == 2);
-    assert!(rt; newest_number(rt.alloc(), &mut site, &second) == Some(2));
+    assert!(rt; both_are_sure(rt.alloc(), &first, &second)?);
     Ok(())
 }
 

@@ -492,12 +492,17 @@ fn first_difference(alloc: Global, found: &Found, row: &Row) -> Result<&'static 
     Ok("none")
 }
 
+// Runs a row, and tells the first part that isn't as wanted.
+fn difference(alloc: Global, row: &Row) -> Result<&'static str, Fail> {
+    let found = found_of(alloc, row)?;
+    Ok(first_difference(alloc, &found, row)?)
+}
+
 #[test]
 fn each_run_comes_to_what_is_wanted(rt: HostRuntime) -> Result<(), Fail> {
     for (place, row) in ROWS.iter().enumerate() {
-        let found = found_of(rt.alloc(), row)?;
-        let difference = first_difference(rt.alloc(), &found, row)?;
-        assert!(rt; difference == "none", "row {place}: {difference}");
+        let told = difference(rt.alloc(), row)?;
+        assert!(rt; told == "none", "row {place}: {told}");
     }
     Ok(())
 }

@@ -119,18 +119,55 @@ impl Stand {
         let is_first = row.sent.as_bytes().starts_with(snapshot.sent.as_slice());
         let answered = count_lines(snapshot.sent.as_slice());
         let mut site = MemorySite::from_snapshot(self.alloc, snapshot, &[])?;
-        let log = match log_text(self.alloc, row.numbered, &mut site) {
-            Err(Fault::NoLog) => return Ok(!made && answered == 0),
-            log => log?,
-        };
-        let entries = entries_in(log.as_slice());
-        let found = databases_text(self.alloc, defs, row.numbered, &mut site)?;
-        Ok(
-            is_first
-                && answered <= entries
-                && self.groups.as_slice().starts_with(log.as_slice())
-                && found.as_slice() == self.databases(entries)?.as_bytes(),
-        )
+        match log_text(self.alloc, row.numbered, &mut site) {
+            Err(Fault::NoLog) => Ok(!made && answered == 0),
+            log => {
+                let log = log?;
+                Ok(
+                    is_first
+                        && answered <= entries_in(log.as_slice())
+                        && self.is_behind(defs, &mut site, log.as_slice())?,
+                )
+            }
+        }
+    }
+
+    // Whether the text of a log is a first part of that of the whole run, and the databases of a site are those behind it.
+    fn is_behind(&self, defs: &Defs, site: &mut MemorySite, log: &[u8]) -> Result<bool, Fault>
+        requires { AllByRecursion IsMsdbDef defs.now.msdbs }
+    {
+        let stopped = self.stopped;
+        let found = databases_text(self.alloc, defs, stopped.row.numbered, site)?;
+        let wanted = self.databases(entries_in(log))?;
+        Ok(self.groups.as_slice().starts_with(log) && found.as_slice() == wanted.as_bytes())
+    }
+
+    // The first of eight images that may be left of a run, from which a restart hasn't what was answered.
+    fn first_lost_of(&self, defs: &Defs, left: &Left) -> Result<Option<u64>, Fault>
+        requires { AllByRecursion IsMsdbDef defs.now.msdbs }
+    {
+        for choice in 0..8 {
+            if !self.is_kept(defs, left.made, left.site.snapshot_as(choice)?)? {
+                return Ok(Some(choice));
+            }
+        }
+        Ok(None)
+    }
+
+    // The first failed or stopped call behind which a restart hasn't what was answered, and the image.
+    fn first_lost(&self) -> Result<Option<(u64, u64)>, Fault> {
+        let defs = core_runs::definitions(self.alloc, self.definitions.as_slice(), &self.exits)?;
+        for number in 0..2 * MOST_CALLS {
+            let left = self.fail(number / 2, number % 2 == 0)?;
+            // Behind the last call nothing fails.
+            if left.site.faults() == 0 {
+                break;
+            }
+            if let Some(choice) = self.first_lost_of(&defs, &left)? {
+                return Ok(Some((number, choice)));
+            }
+        }
+        Ok(None)
     }
 
     // The text of the databases behind so many entries.
@@ -168,18 +205,12 @@ fn is_torn(sent: &[u8], replies: &[u8]) -> bool {
 fn a_restart_has_what_was_answered(rt: HostRuntime) -> Result<(), Fail> {
     for (place, stopped) in STOPPED.iter().enumerate() {
         let stand = Stand::new(rt.alloc(), stopped)?;
-        let defs = core_runs::definitions(rt.alloc(), stand.definitions.as_slice(), &stand.exits)?;
-        for number in 0..2 * MOST_CALLS {
-            let Left { site, made, .. } = stand.fail(number / 2, number % 2 == 0)?;
-            // Behind the last call nothing fails.
-            if site.faults() == 0 {
-                break;
-            }
-            for choice in 0..8 {
-                let kept = stand.is_kept(&defs, made, site.snapshot_as(choice)?)?;
-                assert!(rt; kept, "stop {number}, image {choice}, run {place}");
-            }
-        }
+        let lost = stand.first_lost()?;
+        let (number, choice) = lost.unwrap_or((0, 0));
+        assert!(rt;
+            lost.is_none(),
+            "stop {number}, image {choice}, run {place}"
+        );
     }
     Ok(())
 }

@@ -56,16 +56,22 @@ fn is_answered(alloc: Global, site: &mut MemorySite) -> Result<bool, AllocError>
 // The entry of a migration with its length, the length of its group, and the gate.
 const FORMAT_GROUP: usize = 1 + 8 + (8 + 8 + 1 + 2 + 2 + 4 + 4);
 
+// Whether a run is refused as of an old format, and leaves the log as it was.
+fn is_refused(alloc: Global, site: &mut MemorySite) -> Result<bool, AllocError> {
+    let long = site.contents(0).len();
+    let ran = done(alloc, "run", site)?;
+    Ok(ran == Status::OldFormat && site.contents(0).len() == long)
+}
+
 #[test]
 fn a_site_of_format_1_is_migrated_before_a_run(rt: HostRuntime) -> Result<(), Fail> {
     let alloc = rt.alloc();
     let mut site = old_site(alloc)?;
     let long = site.contents(0).len();
-    let ran = done(alloc, "run", &mut site)?;
-    assert!(rt; ran == Status::OldFormat && site.contents(0).len() == long);
+    let refused = is_refused(alloc, &mut site)?;
     let moved = is_migrated(alloc, &mut site, long + FORMAT_GROUP)?;
     let answered = is_answered(alloc, &mut site)?;
-    assert!(rt; moved && answered);
+    assert!(rt; refused && moved && answered);
     Ok(())
 }
 
@@ -97,33 +103,50 @@ fn all_go_on(alloc: Global, site: &MemorySite) -> Result<bool, AllocError> {
     Ok(all)
 }
 
+// Whether a migration one call of which fails leaves a site that goes on, and whether there was such a call.
+fn goes_on_without(
+    alloc: Global,
+    old: &MemorySite,
+    failing: u64,
+) -> Result<(bool, bool), AllocError> {
+    let mut site = MemorySite::from_snapshot(alloc, old.snapshot_as(0)?, &[failing])?;
+    let _ = done(alloc, "migrate", &mut site)?;
+    Ok((all_go_on(alloc, &site)?, site.faults() > 0))
+}
+
 #[test]
 fn each_call_of_a_migration_may_fail(rt: HostRuntime) -> Result<(), Fail> {
-    let alloc = rt.alloc();
-    let old = old_site(alloc)?;
+    let old = old_site(rt.alloc())?;
     for failing in 0..20 {
-        let mut site = MemorySite::from_snapshot(alloc, old.snapshot_as(0)?, &[failing])?;
-        let _ = done(alloc, "migrate", &mut site)?;
-        assert!(rt; all_go_on(alloc, &site)?, "call {failing}");
+        let (goes_on, failed) = goes_on_without(rt.alloc(), &old, failing)?;
+        assert!(rt; goes_on, "call {failing}");
         // Behind the last call nothing fails.
-        if site.faults() == 0 {
+        if !failed {
             break;
         }
     }
     Ok(())
 }
 
+// Whether a migration that stops at this call leaves a site that goes on, and whether it stopped. None where the old log
+// wasn't written by then.
+fn goes_on_behind(alloc: Global, after: u64) -> Result<Option<(bool, bool)>, AllocError> {
+    let mut site = MemorySite::stopping(alloc, after)?;
+    if !write_old(alloc, &mut site)? {
+        return Ok(None);
+    }
+    let _ = done(alloc, "migrate", &mut site)?;
+    Ok(Some((all_go_on(alloc, &site)?, site.faults() > 0)))
+}
+
 // The log is opened by 2 calls of a migration, and its group sealed by 4.
 #[test]
 fn a_migration_may_be_stopped_at_each_call(rt: HostRuntime) -> Result<(), Fail> {
-    let alloc = rt.alloc();
     let mut stops: u32 = 0;
     for after in 0..50 {
-        let mut site = MemorySite::stopping(alloc, after)?;
-        if write_old(alloc, &mut site)? {
-            let _ = done(alloc, "migrate", &mut site)?;
-            assert!(rt; all_go_on(alloc, &site)?, "stopped at {after}");
-            if site.faults() == 0 {
+        if let Some((goes_on, stopped)) = goes_on_behind(rt.alloc(), after)? {
+            assert!(rt; goes_on, "stopped at {after}");
+            if !stopped {
                 break;
             }
             stops = stops.saturating_add(1);

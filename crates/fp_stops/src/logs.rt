@@ -38,17 +38,35 @@ fn read_back(alloc: Global, snapshot: Snapshot) -> Result<Option<u64>, LogFault>
         Err(LogFault::Foreign) => return Ok(None),
         Err(fault) => return Err(fault),
     };
+    Ok(Some(groups_of(&mut log, &mut site)?))
+}
+
+// How many groups a log has, each of the entry that it should have.
+fn groups_of(log: &mut Log, site: &mut MemorySite) -> Result<u64, LogFault> {
     let mut at = log.gate();
     for number in 0..4 {
-        let Some(group) = log.group_at(&mut site, at)? else {
-            return Ok(Some(number));
+        let Some(next) = behind_group(log, site, at, number)? else {
+            return Ok(number);
         };
-        match group.entries.get(0) {
-            Some(e) if e.from == number => at = group.next,
-            _ => return Err(LogFault::Damaged(at)),
-        }
+        at = next;
     }
     Err(LogFault::Damaged(at))
+}
+
+// The gate behind the group at a gate, which has the entry of this number. None where there is none.
+fn behind_group(
+    log: &mut Log,
+    site: &mut MemorySite,
+    at: u64,
+    number: u64,
+) -> Result<Option<u64>, LogFault> {
+    let Some(group) = log.group_at(site, at)? else {
+        return Ok(None);
+    };
+    match group.entries.get(0) {
+        Some(e) if e.from == number => Ok(Some(group.next)),
+        _ => Err(LogFault::Damaged(at)),
+    }
 }
 
 // Whether every snapshot of a site reads back as so many groups, or, with None, as no open log.
@@ -135,6 +153,31 @@ fn made_anew(alloc: Global, old: &MemorySite, after: u64) -> Result<(MemorySite,
     Ok((site, made))
 }
 
+// Whether a making that stops behind so many calls is done, and the first of eight images that it may not leave.
+fn stopped_anew(
+    alloc: Global,
+    old: &MemorySite,
+    after: u64,
+) -> Result<(bool, Option<u64>), AllocError>
+    requires { after < 100 }
+{
+    let (site, made) = made_anew(alloc, old, after)?;
+    for choice in 0..8 {
+        if !is_left_anew(alloc, site.snapshot_as(choice)?, after) {
+            return Ok((made, Some(choice)));
+        }
+    }
+    Ok((made, None))
+}
+
+// Whether a making that stops behind so many calls may leave this.
+fn is_left_anew(alloc: Global, snapshot: Snapshot, after: u64) -> bool {
+    let found = read_back(alloc, snapshot);
+    let is_old = found == Ok(Some(3));
+    let is_none = found == Ok(None);
+    may_be_left(after, is_old, is_none, found == Ok(Some(0)))
+}
+
 // A log of three groups is made anew by 9 calls. Until then it is as it was, or isn't open.
 #[test]
 fn a_log_made_anew_is_the_old_one_or_none_or_the_new_one(rt: HostRuntime) -> Result<(), Fail> {
@@ -142,20 +185,10 @@ fn a_log_made_anew_is_the_old_one_or_none_or_the_new_one(rt: HostRuntime) -> Res
     let (old, sealed) = three_sealed(alloc)?;
     assert!(rt; sealed == 3);
     for after in 0..10 {
-        let (site, made) = made_anew(alloc, &old, after)?;
+        let (made, wrong) = stopped_anew(alloc, &old, after)?;
+        let image = wrong.unwrap_or(0);
         assert!(rt; made == (after == 9), "stopped at {after}");
-        for choice in 0..8 {
-            let found = read_back(alloc, site.snapshot_as(choice)?);
-            let left = (
-                found == Ok(Some(3)),
-                found == Ok(None),
-                found == Ok(Some(0)),
-            );
-            assert!(rt;
-                may_be_left(after, left.0, left.1, left.2),
-                "stopped at {after}, image {choice}"
-            );
-        }
+        assert!(rt; wrong.is_none(), "stopped at {after}, image {image}");
     }
     Ok(())
 }

@@ -8,7 +8,7 @@ ghost use Rattle.std.specs.Prelude.{◌≡◌, ◌+◌, ◌-◌, ◌<◌, ◌^�
 use crate::groups::{front_of, may_be_left, stopping_copy};
 use crate::systems::{NOTES, defs_of};
 use fp_model::{AreaEnds, Bytes, Db, Defs, Entry, Item, List, Outcome};
-use fp_restart::{RestartFault, define, restart, whole_db};
+use fp_restart::{Parts, RestartFault, define, restart, whole_db};
 use fp_site::Site;
 use log_groups::{Front, Log};
 use memory_site::MemorySite;
@@ -171,8 +171,19 @@ fn read(
 {
     let front = front(alloc, scripts)?;
     let mut parts = restart(alloc, defs, &front, site)?;
-    let db = whole_db(alloc, &mut parts, defs, site)?;
-    Ok((parts.1.sealed(), segments_of(alloc, &db)?))
+    let segments = segments_in(alloc, &mut parts, defs, site)?;
+    Ok((parts.1.sealed(), segments))
+}
+
+// The segments of the state of these parts.
+fn segments_in(
+    alloc: Global,
+    parts: &mut Parts,
+    defs: &Defs,
+    site: &mut MemorySite,
+) -> Result<Bytes, RestartFault> {
+    let db = whole_db(alloc, parts, defs, site)?;
+    Ok(segments_of(alloc, &db)?)
 }
 
 // Restarts, and gives the last gate's place. The front, the groups and that gate were read, each byte once.
@@ -272,19 +283,15 @@ fn is_left_well(
     Ok(true)
 }
 
-// Makes a log anew over the contents of a site, where the call with this number and the next one fail. The site, and
-// whether the log was made.
-fn made_anew(
-    alloc: Global,
-    defs: &Defs,
-    old: &MemorySite,
-    after: u64,
-) -> Result<(MemorySite, bool), AllocError>
-    requires { after < 100 }
+// Makes a log anew over the contents of a site, where the call with this number and the next one fail. Whether it is made
+// where no call fails alone, and what is left is as it may be.
+fn leaves_well(alloc: Global, defs: &Defs, old: &MemorySite, after: u64) -> Result<bool, AllocError>
+    requires after { after < 100 }
+    requires defs { AreDefs defs.now }
 {
     let mut site = stopping_copy(alloc, old, after)?;
     let made = make(alloc, defs, &mut site).is_ok();
-    Ok((site, made))
+    Ok(made == (after == 9) && is_left_well(alloc, defs, &site, after)?)
 }
 
 #[test]
@@ -295,10 +302,8 @@ fn after_each_stop_of_define_the_old_state_stands_or_none_or_the_start(
     let defs = defs_of(alloc, &[NOTES, LOADED])?;
     let old = two_written(alloc, &defs)?;
     for after in 0..10 {
-        let (site, made) = made_anew(alloc, &defs, &old, after)?;
-        assert!(rt; made == (after == 9), "stopped at {after}");
         assert!(rt;
-            is_left_well(alloc, &defs, &site, after)?,
+            leaves_well(alloc, &defs, &old, after)?,
             "stopped at {after}"
         );
     }
@@ -417,15 +422,22 @@ fn write_case(
     write_both(alloc, defs, site, first, second)
 }
 
+// Whether the answer of a restart over the item of a case is as it should be.
+fn case_fits_or_is_damaged(alloc: Global, defs: &Defs, case: u64) -> Result<bool, RestartFault>
+    requires { AreDefs defs.now }
+{
+    let mut site = MemorySite::new(alloc, &[])?;
+    let gate = write_case(alloc, defs, &mut site, case)?;
+    let answer = read(alloc, defs, b'S', &mut site);
+    Ok(fits_or_is_damaged(&answer, gate, case < 5))
+}
+
 #[test]
 fn an_item_that_does_not_fit_is_damage_at_its_group(rt: HostRuntime) -> Result<(), Fail> {
     let alloc = rt.alloc();
     let defs = defs_of(alloc, &[NOTES, LOADED, ORDERS])?;
     for case in 0..8 {
-        let mut site = MemorySite::new(alloc, &[])?;
-        let gate = write_case(alloc, &defs, &mut site, case)?;
-        let answer = read(alloc, &defs, b'S', &mut site);
-        assert!(rt; fits_or_is_damaged(&answer, gate, case < 5), "case {case}");
+        assert!(rt; case_fits_or_is_damaged(alloc, &defs, case)?, "case {case}");
     }
     Ok(())
 }
@@ -447,15 +459,28 @@ fn write_range(
 // Intervals, and whether a range of one is damage there.
 static RANGES: [(u16, u64, bool); 3] = [(3, 1, false), (3, 2, true), (4, 1, true)];
 
+// Whether the answer of a restart over a range of an interval is of that kind.
+fn range_fits_or_is_damaged(
+    alloc: Global,
+    defs: &Defs,
+    at: (u16, u64),
+    is_damage: bool,
+) -> Result<bool, RestartFault>
+    requires { AreDefs defs.now }
+{
+    let mut site = MemorySite::new(alloc, &[])?;
+    let gate = write_range(alloc, defs, &mut site, at.0, at.1)?;
+    let answer = read(alloc, defs, b'S', &mut site);
+    Ok(fits_or_is_damaged(&answer, gate, is_damage))
+}
+
 #[test]
 fn a_range_without_its_image_is_damage_at_its_group(rt: HostRuntime) -> Result<(), Fail> {
     let alloc = rt.alloc();
     let defs = defs_of(alloc, &[NOTES, LOADED, ORDERS])?;
     for (row, (set, ci, is_damage)) in RANGES.iter().enumerate() {
-        let mut site = MemorySite::new(alloc, &[])?;
-        let gate = write_range(alloc, &defs, &mut site, *set, *ci)?;
-        let answer = read(alloc, &defs, b'S', &mut site);
-        assert!(rt; fits_or_is_damaged(&answer, gate, *is_damage), "row {row}");
+        let is_so = range_fits_or_is_damaged(alloc, &defs, (*set, *ci), *is_damage)?;
+        assert!(rt; is_so, "row {row}");
     }
     Ok(())
 }

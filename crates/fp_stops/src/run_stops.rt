@@ -139,13 +139,17 @@ fn is_last(row: &Stopped, text: &[u8]) -> bool {
     }
 }
 
+// Whether a run that isn't stopped has all, and the command behind it says so.
+fn has_all(alloc: Global, row: &Stopped) -> Result<bool, AllocError> {
+    let (site, made) = stop(alloc, row, row.calls)?;
+    let (status, text) = asked(alloc, row, site.snapshot_as(0)?)?;
+    Ok(made && status == Status::Done && is_last(row, text.as_slice()))
+}
+
 #[test]
 fn a_run_that_is_not_stopped_has_all(rt: HostRuntime) -> Result<(), Fail> {
     for (number, row) in STOPPED.iter().enumerate() {
-        let (site, made) = stop(rt.alloc(), row, row.calls)?;
-        let (status, text) = asked(rt.alloc(), row, site.snapshot_as(0)?)?;
-        let has_all = made && status == Status::Done && is_last(row, text.as_slice());
-        assert!(rt; has_all, "row {number}");
+        assert!(rt; has_all(rt.alloc(), row)?, "row {number}");
     }
     Ok(())
 }

@@ -2,6 +2,7 @@
 //! long, a read that fails; and regions that take turns by a schedule.
 use crate::steps::{Answer, Folder, Row, Step, first_wrong};
 use crate::systems::{EACH_SEALED, ONE_REGION, PAIRS};
+use std::alloc::{AllocError, Global};
 use std::test::Fail;
 
 // Messages one after another, and the lines that they are answered.
@@ -287,14 +288,27 @@ static CUT_SHORT: [(&str, &str, &str); 4] = [
     ),
 ];
 
+// Whether a run that ends at a line that is too long sends this, and a question behind it is answered so.
+fn is_cut_short(
+    alloc: Global,
+    schedule: &str,
+    sent: &str,
+    asked: &str,
+) -> Result<bool, AllocError> {
+    let mut folder = Folder::new(alloc, PAIRS)?;
+    let made = folder.tells("define", "")?;
+    let ended = folder.runs_too_long(schedule, TWO_DEPOSITS, 3, sent)?;
+    let left = folder.runs("", "T3 ASK A001\n", asked)?;
+    Ok(made && ended && left)
+}
+
 #[test]
 fn what_is_not_sealed_is_lost_at_a_line_that_is_too_long(rt: HostRuntime) -> Result<(), Fail> {
     for (place, (schedule, sent, asked)) in CUT_SHORT.iter().enumerate() {
-        let mut folder = Folder::new(rt.alloc(), PAIRS)?;
-        let made = folder.tells("define", "")?;
-        let ended = folder.runs_too_long(schedule, TWO_DEPOSITS, 3, sent)?;
-        let left = folder.runs("", "T3 ASK A001\n", asked)?;
-        assert!(rt; made && ended && left, "row {place}");
+        assert!(rt;
+            is_cut_short(rt.alloc(), schedule, sent, asked)?,
+            "row {place}"
+        );
     }
     Ok(())
 }

@@ -16,12 +16,18 @@ pub(crate) fn status_over(
     site: &mut MemorySite,
 ) -> Result<Status, AllocError> {
     let mut source = MemorySource::new(alloc, parts, failing)?;
+    let texts = texts_of(alloc, words)?;
+    let exits = exits(alloc)?;
+    Ok(ims(alloc, &texts, &mut source, site, &exits))
+}
+
+// The words of a command, as the program is given them.
+fn texts_of(alloc: Global, words: &[&str]) -> Result<Vec<String>, AllocError> {
     let mut texts = Vec::new(alloc);
     for word in words {
         texts.push(word.to_string(alloc)?)?;
     }
-    let exits = exits(alloc)?;
-    Ok(ims(alloc, &texts, &mut source, site, &exits))
+    Ok(texts)
 }
 
 // What a command reads beside its system: a schedule and messages; the reads with these numbers fail.

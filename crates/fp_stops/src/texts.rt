@@ -83,9 +83,15 @@ fn is_told(alloc: Global, text: &Text) -> Result<bool, AllocError> {
     let mut folder = Folder::new(alloc, TWO_REGIONS)?;
     let made = folder.tells("define", "")?;
     let ran = folder.runs(text.schedule, text.messages, text.sent)?;
-    let shown = folder.tells("show", shown(alloc, text.left)?.as_str())?;
+    let shown = shows(alloc, &mut folder, text.left)?;
     let logged = folder.tells("log", text.logged)?;
     Ok(made && ran && shown && logged)
+}
+
+// Whether `show` sends the text of these balances.
+fn shows(alloc: Global, folder: &mut Folder, left: Balances) -> Result<bool, AllocError> {
+    let text = shown(alloc, left)?;
+    folder.tells("show", text.as_str())
 }
 
 #[test]
@@ -290,14 +296,18 @@ IN R1 R2 R3 R4
 IN R1 R2 R3 R4",
 ];
 
+// Whether the mix comes to its text by a schedule.
+fn is_mixed(alloc: Global, schedule: &str) -> Result<bool, AllocError> {
+    let mut folder = Folder::new(alloc, FOUR_REGIONS)?;
+    let made = folder.tells("define", "")?;
+    let ran = folder.runs_lines(schedule, MIXED, 30)?;
+    Ok(made && ran && shows(alloc, &mut folder, (290, 40, 1))?)
+}
+
 #[test]
 fn a_mix_comes_to_one_text_by_each_schedule(rt: HostRuntime) -> Result<(), Fail> {
     for (place, schedule) in MIXED_SCHEDULES.iter().enumerate() {
-        let mut folder = Folder::new(rt.alloc(), FOUR_REGIONS)?;
-        let made = folder.tells("define", "")?;
-        let ran = folder.runs_lines(schedule, MIXED, 30)?;
-        let shown = folder.tells("show", shown(rt.alloc(), (290, 40, 1))?.as_str())?;
-        assert!(rt; made && ran && shown, "schedule {place}");
+        assert!(rt; is_mixed(rt.alloc(), schedule)?, "schedule {place}");
     }
     Ok(())
 }
