@@ -143,6 +143,59 @@ fn well_if(is_so: bool) -> Ended {
     if is_so { Ended::Well } else { Ended::Otherwise }
 }
 
+/// The areas of definitions, with a pool of so many clean intervals.
+fn open_areas(alloc: Global, defs: &Defs, bound: u32) -> Result<Areas, AllocError>
+    requires bank { IsBank defs.now }
+    requires bound { 1 ≤ bound }
+    ensures { IfOk result (λ areas. HasBank defs.now areas.places) }
+{
+    let pool = Pool::new(alloc, bound)?;
+    Areas::open(alloc, defs, pool)
+}
+
+/// The log of a site, whose entries from this one on are applied to areas. None where the site failed, or they can't be.
+fn applied_log(
+    alloc: Global,
+    areas: &mut Areas,
+    defs: &Defs,
+    site: &mut MemorySite,
+    from: u64,
+) -> Result<Option<Log>, AllocError>
+    requires { HasBank defs.now areas.old.places }
+    ensures { areas.new.places ≡ areas.old.places }
+{
+    match open_log(alloc, site)? {
+        Some(mut log) => {
+            if apply_log(areas, defs, &mut log, site, from)? {
+                Ok(Some(log))
+            } else {
+                Ok(None)
+            }
+        }
+        None => Ok(None),
+    }
+}
+
+/// The log of a site and the areas, to which its entries from this one on are applied. None where the site failed, or they
+/// can't be.
+fn open_both(
+    alloc: Global,
+    defs: &Defs,
+    site: &mut MemorySite,
+    bound: u32,
+    checked: u64,
+) -> Result<Option<(Log, Areas)>, AllocError>
+    requires bank { IsBank defs.now }
+    requires bound { 1 ≤ bound }
+    ensures { IfOk result (λ found. IfSome found (λ both. HasBank defs.now both.1.places)) }
+{
+    let mut areas = open_areas(alloc, defs, bound)?;
+    match applied_log(alloc, &mut areas, defs, site, checked)? {
+        Some(log) => Ok(Some((log, areas))),
+        None => Ok(None),
+    }
+}
+
 /// The log and the areas of a site, with the entries of the log from this one on applied. None where the site failed, or
 /// they can't be.
 fn opened(
@@ -156,24 +209,57 @@ fn opened(
     requires bound { 1 ≤ bound }
     ensures { IfOk result (λ found. IfSome found (λ bench. HasBank bench.defs bench.areas.places)) }
 {
-    let Some(mut log) = open_log(alloc, &mut site)? else {
-        return Ok(None);
-    };
-    let mut areas = Areas::open(alloc, &defs, Pool::new(alloc, bound)?)?;
-    if !apply_log(&mut areas, &defs, &mut log, &mut site, checked)? {
-        return Ok(None);
+    match open_both(alloc, &defs, &mut site, bound, checked)? {
+        Some((log, areas)) => {
+            let mark = log.sealed();
+            Ok(Some(Bench {
+                alloc,
+                defs,
+                areas,
+                log,
+                site,
+                bound,
+                mark,
+                checked,
+            }))
+        }
+        None => Ok(None),
     }
-    let mark = log.sealed();
-    Ok(Some(Bench {
-        alloc,
-        defs,
-        areas,
-        log,
-        site,
-        bound,
-        mark,
-        checked,
-    }))
+}
+
+/// Formats the areas of definitions over a site, and makes a new log there. False where the site failed.
+fn format_all(alloc: Global, defs: &Defs, site: &mut MemorySite) -> Result<bool, AllocError>
+    requires { IsBank defs.now }
+{
+    match Areas::format(alloc, defs, site) {
+        Ok(()) => make_log(alloc, site),
+        Err(AreaFault::Memory) => Err(AllocError),
+        Err(_) => Ok(false),
+    }
+}
+
+/// Formats the areas over a site, and makes a new log there. False where the site failed.
+fn format_site(alloc: Global, site: &mut MemorySite) -> Result<bool, Fail> {
+    match read_bank(alloc)? {
+        Some(defs) => Ok(format_all(alloc, &defs, site)?),
+        None => Ok(false),
+    }
+}
+
+/// What a restart finds over a site. None where the site failed, or the log can't be applied.
+fn opened_over(
+    alloc: Global,
+    site: MemorySite,
+    bound: u32,
+    checked: u64,
+) -> Result<Option<Bench>, Fail>
+    requires { 1 ≤ bound }
+    ensures { IfOk result (λ found. IfSome found (λ bench. HasBank bench.defs bench.areas.places)) }
+{
+    match read_bank(alloc)? {
+        Some(defs) => opened(alloc, defs, site, bound, checked),
+        None => Ok(None),
+    }
 }
 
 impl Bench {
@@ -186,31 +272,30 @@ impl Bench {
         requires { 1 ≤ bound }
         ensures { IfOk result (λ found. IfSome found (λ bench. HasBank bench.defs bench.areas.places)) }
     {
-        let Some(defs) = read_bank(alloc)? else {
-            return Ok(None);
-        };
-        match Areas::format(alloc, &defs, &mut site) {
-            Ok(()) => {}
-            Err(AreaFault::Memory) => return Err(AllocError.into()),
-            Err(_) => return Ok(None),
+        if format_site(alloc, &mut site)? {
+            opened_over(alloc, site, bound, 0)
+        } else {
+            Ok(None)
         }
-        if !make_log(alloc, &mut site)? {
-            return Ok(None);
-        }
-        opened(alloc, defs, site, bound, 0)
     }
 
     /// What a restart finds over this site. None where the site failed, or the log can't be applied.
-    pub(crate) fn restarted(&self, site: MemorySite) -> Result<Option<Bench>, Fail>
+    fn restarted(&self, site: MemorySite) -> Result<Option<Bench>, Fail>
         ensures { IfOk result (λ found. IfSome found (λ bench. HasBank bench.defs bench.areas.places)) }
     {
-        let Some(defs) = read_bank(self.alloc)? else {
-            return Ok(None);
-        };
         if self.bound == 0 {
             return Ok(None);
         }
-        opened(self.alloc, defs, site, self.bound, self.checked)
+        opened_over(self.alloc, site, self.bound, self.checked)
+    }
+
+    /// What a restart finds over this snapshot of its own site. None as there.
+    pub(crate) fn restarted_from(&self, choice: u64) -> Result<Option<Bench>, Fail>
+        ensures { IfOk result (λ found. IfSome found (λ bench. HasBank bench.defs bench.areas.places)) }
+    {
+        let snapshot = self.site.snapshot_as(choice)?;
+        let site = MemorySite::from_snapshot(self.alloc, snapshot, &[])?;
+        self.restarted(site)
     }
 
     /// What an anchor shows. None where the site failed, or the anchor is damaged.
@@ -459,9 +544,7 @@ impl Bench {
         requires { HasBank self.old.defs self.old.areas.places }
         ensures { HasBank self.new.defs self.new.areas.places }
     {
-        let snapshot = self.site.snapshot_as(1)?;
-        let site = MemorySite::from_snapshot(self.alloc, snapshot, &[])?;
-        match self.restarted(site)? {
+        match self.restarted_from(1)? {
             Some(bench) => {
                 *self = bench;
                 Ok(Ended::Well)

@@ -1,9 +1,11 @@
 //! Areas over sites in memory whose bytes were written by hand: what anchors give through the pool, and which damage they name.
 
+ghost use Rattle.fp_model.specs.WellFormed.{AreDefs};
+
 use crate::definitions::definitions;
 use ci_pool::Pool;
 use dedb_area::{AreaFault, Areas};
-use fp_model::{Bytes, List, Root};
+use fp_model::{Bytes, Defs, List, Root};
 use fp_site::Site;
 use memory_site::MemorySite;
 use std::alloc::{AllocError, Global};
@@ -70,14 +72,27 @@ fn write(site: &mut MemorySite, patches: &[Patch]) -> bool {
     true
 }
 
-/// The areas over a site on which they are formatted, and then these bytes are written. None where a call fails.
-fn opened(alloc: Global, site: &mut MemorySite, patches: &[Patch]) -> Result<Option<Areas>, Fail> {
-    let defs = definitions(alloc, DEFINITIONS)?;
-    if Areas::format(alloc, &defs, site).is_err() || !write(site, patches) {
+/// The areas of definitions over a site on which they are formatted, and then these bytes are written. None where a call
+/// fails.
+fn formatted(
+    alloc: Global,
+    defs: &Defs,
+    site: &mut MemorySite,
+    patches: &[Patch],
+) -> Result<Option<Areas>, Fail>
+    requires { AreDefs defs.now }
+{
+    if Areas::format(alloc, defs, site).is_err() || !write(site, patches) {
         return Ok(None);
     }
     let pool = Pool::new(alloc, 8)?;
-    Ok(Some(Areas::open(alloc, &defs, pool)?))
+    Ok(Some(Areas::open(alloc, defs, pool)?))
+}
+
+/// The areas of the database over a site.
+fn opened(alloc: Global, site: &mut MemorySite, patches: &[Patch]) -> Result<Option<Areas>, Fail> {
+    let defs = definitions(alloc, DEFINITIONS)?;
+    formatted(alloc, &defs, site, patches)
 }
 
 /// The roots one after another, each with its notes and their serials, of one digit.
@@ -127,18 +142,38 @@ fn gives(
 /// An anchor, and what it gives.
 type Row = (u32, &'static [u8]);
 
-/// Whether the anchors of an area with these bytes give what the rows say, one after another.
-fn all_give(alloc: Global, patches: &[Patch], rows: &[Row]) -> Result<bool, Fail> {
-    let mut site = MemorySite::new(alloc, &[])?;
-    let Some(mut areas) = opened(alloc, &mut site, patches)? else {
-        return Ok(false);
-    };
+/// Whether anchors give what the rows say, one after another.
+fn each_gives(
+    alloc: Global,
+    areas: &mut Areas,
+    site: &mut MemorySite,
+    rows: &[Row],
+) -> Result<bool, Fail> {
     for (anchor, wanted) in rows {
-        if !gives(alloc, &mut areas, &mut site, *anchor, wanted)? {
+        if !gives(alloc, areas, site, *anchor, wanted)? {
             return Ok(false);
         }
     }
     Ok(true)
+}
+
+/// Whether the anchors of an area with these bytes give what the rows say, one after another.
+fn all_give_over(
+    alloc: Global,
+    site: &mut MemorySite,
+    patches: &[Patch],
+    rows: &[Row],
+) -> Result<bool, Fail> {
+    match opened(alloc, site, patches)? {
+        Some(mut areas) => each_gives(alloc, &mut areas, site, rows),
+        None => Ok(false),
+    }
+}
+
+/// So it is over a new site.
+fn all_give(alloc: Global, patches: &[Patch], rows: &[Row]) -> Result<bool, Fail> {
+    let mut site = MemorySite::new(alloc, &[])?;
+    all_give_over(alloc, &mut site, patches, rows)
 }
 
 /// An area as it starts has no roots.
@@ -158,17 +193,23 @@ fn items_and_their_notes_are_read(rt: HostRuntime) -> Result<(), Fail> {
     Ok(())
 }
 
+/// Whether areas have the two anchors of the database alone.
+fn have_two_anchors(areas: &Areas) -> bool {
+    areas.has_anchor(0, 1) && !areas.has_anchor(0, 2) && !areas.has_anchor(1, 0)
+}
+
+/// Whether the areas over a site do.
+fn has_two_anchors(alloc: Global, site: &mut MemorySite) -> Result<bool, Fail> {
+    match opened(alloc, site, &[])? {
+        Some(areas) => Ok(have_two_anchors(&areas)),
+        None => Ok(false),
+    }
+}
+
 #[test]
 fn the_area_has_two_anchors(rt: HostRuntime) -> Result<(), Fail> {
     let mut site = MemorySite::new(rt.alloc(), &[])?;
-    match opened(rt.alloc(), &mut site, &[])? {
-        Some(areas) => {
-            assert!(rt;
-                areas.has_anchor(0, 1) && !areas.has_anchor(0, 2) && !areas.has_anchor(1, 0)
-            );
-        }
-        None => assert!(rt; false),
-    }
+    assert!(rt; has_two_anchors(rt.alloc(), &mut site)?);
     Ok(())
 }
 
@@ -186,21 +227,46 @@ static DAMAGES: [(Patch, u64); 5] = [
     ((2104, b"\0\0\0\0\0\0\0\x04"), 2048),
 ];
 
+/// Whether the first anchor names damage of the area at this place.
+fn names(
+    alloc: Global,
+    areas: &mut Areas,
+    site: &mut MemorySite,
+    at: u64,
+) -> Result<bool, AllocError> {
+    match read(alloc, areas, site, 0)? {
+        Some(Err(AreaFault::Damaged { set, at: place })) => Ok(set == 3 && place == at),
+        _ => Ok(false),
+    }
+}
+
+/// Whether it does where these bytes are written over the items of a site. None where they can't be.
+fn names_over(
+    alloc: Global,
+    site: &mut MemorySite,
+    patch: &Patch,
+    at: u64,
+) -> Result<Option<bool>, Fail> {
+    match opened(alloc, site, &ITEMS)? {
+        Some(mut areas) if write(site, &[*patch]) => {
+            Ok(Some(names(alloc, &mut areas, site, at)?))
+        }
+        _ => Ok(None),
+    }
+}
+
+/// So it is over a new site.
+fn names_over_items(alloc: Global, patch: &Patch, at: u64) -> Result<Option<bool>, Fail> {
+    let mut site = MemorySite::new(alloc, &[])?;
+    names_over(alloc, &mut site, patch, at)
+}
+
 #[test]
 fn damage_is_named(rt: HostRuntime) -> Result<(), Fail> {
     for (row, (patch, at)) in DAMAGES.iter().enumerate() {
-        let mut site = MemorySite::new(rt.alloc(), &[])?;
-        let Some(mut areas) = opened(rt.alloc(), &mut site, &ITEMS)? else {
-            assert!(rt; false);
-            return Ok(());
-        };
-        let (place, bytes) = *patch;
-        assert!(rt; place < 4096 && bytes.len() < 512 && site.write_at(3, place, bytes).is_ok());
-        let found = read(rt.alloc(), &mut areas, &mut site, 0)?;
-        assert!(rt;
-            found == Some(Err(AreaFault::Damaged { set: 3, at: *at })),
-            "row {row}"
-        );
+        let named = names_over_items(rt.alloc(), patch, *at)?;
+        assert!(rt; named.is_some());
+        assert!(rt; named == Some(true), "row {row}");
     }
     Ok(())
 }

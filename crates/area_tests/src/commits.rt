@@ -1,5 +1,6 @@
 //! Customers come to one anchor until it is full, notes to a part until it is full, and items of changes in place.
 
+ghost use Rattle.area_tests.specs.Bank.{HasBank};
 ghost use Rattle.std.specs.Prelude.{◌≤◌};
 
 use crate::bench::Came::{Full, Items};
@@ -13,6 +14,24 @@ use memory_site::MemorySite;
 use std::alloc::Global;
 use std::test::Fail;
 
+/// Runs steps. The first that didn't end well, and what the site has of both areas.
+fn first_unwell(
+    alloc: Global,
+    bench: &mut Bench,
+    steps: &[Step],
+) -> Result<(Option<usize>, Vec<u8>), Fail>
+    requires { HasBank bench.old.defs bench.old.areas.places }
+{
+    for (place, step) in steps.iter().enumerate() {
+        if !matches!(bench.step(step)?, Ended::Well) {
+            return Ok((Some(place), Vec::new(alloc)));
+        }
+    }
+    let mut bytes = Vec::from_slice(alloc, bench.site.contents(3))?;
+    bytes.extend_from_slice(bench.site.contents(4))?;
+    Ok((None, bytes))
+}
+
 /// Runs steps over areas that are formatted over a site. The first that didn't end well, or how many there are where the site
 /// failed before; and what the site has of both areas.
 fn first_other(
@@ -23,17 +42,18 @@ fn first_other(
 ) -> Result<(Option<usize>, Vec<u8>), Fail>
     requires { 1 ≤ bound }
 {
-    let Some(mut bench) = Bench::formatted(alloc, site, bound)? else {
-        return Ok((Some(steps.len()), Vec::new(alloc)));
-    };
-    for (place, step) in steps.iter().enumerate() {
-        if !matches!(bench.step(step)?, Ended::Well) {
-            return Ok((Some(place), Vec::new(alloc)));
-        }
+    match Bench::formatted(alloc, site, bound)? {
+        Some(mut bench) => first_unwell(alloc, &mut bench, steps),
+        None => Ok((Some(steps.len()), Vec::new(alloc))),
     }
-    let mut bytes = Vec::from_slice(alloc, bench.site.contents(3))?;
-    bytes.extend_from_slice(bench.site.contents(4))?;
-    Ok((None, bytes))
+}
+
+/// So it does over a site that is new.
+fn over_new(alloc: Global, bound: u32, steps: &[Step]) -> Result<(Option<usize>, Vec<u8>), Fail>
+    requires { 1 ≤ bound }
+{
+    let site = MemorySite::new(alloc, &[])?;
+    first_other(alloc, site, bound, steps)
 }
 
 /// Twenty-one customers of one anchor, of which ten fit into its base interval, and ten into its unit's overflow interval.
@@ -155,31 +175,46 @@ static IN_PLACE: [Step; 13] = [
     Shows(6, b"C001BON;"),
 ];
 
+/// How many rows of steps there are.
+const ROWS: usize = 4;
+
+/// The steps of a row.
+fn row_of(row: usize) -> &'static [Step] {
+    match row {
+        0 => &CUSTOMERS[..],
+        1 => &NOTES[..],
+        2 => &MIXED[..],
+        _ => &IN_PLACE[..],
+    }
+}
+
+/// The first of these steps that doesn't end well with a pool of ten, and whether there are bytes of the areas.
+fn outcome(alloc: Global, steps: &[Step]) -> Result<(Option<usize>, bool), Fail> {
+    let (other, bytes) = over_new(alloc, 10, steps)?;
+    Ok((other, !bytes.is_empty()))
+}
+
 #[test]
 fn rows_come_out_as_wanted(rt: HostRuntime) -> Result<(), Fail> {
-    for (row, steps) in [&CUSTOMERS[..], &NOTES[..], &MIXED[..], &IN_PLACE[..]]
-        .iter()
-        .enumerate()
-    {
-        let site = MemorySite::new(rt.alloc(), &[])?;
-        let (other, bytes) = first_other(rt.alloc(), site, 10, steps)?;
+    for row in 0..ROWS {
+        let (other, has_bytes) = outcome(rt.alloc(), row_of(row))?;
         assert!(rt; other.is_none(), "row {row}, step {}", other.unwrap_or(0));
-        assert!(rt; !bytes.is_empty(), "row {row}");
+        assert!(rt; has_bytes, "row {row}");
     }
     Ok(())
 }
 
+/// Whether these steps end well with a pool of a thousand, and one of one leaves the same bytes.
+fn leave_the_same(alloc: Global, steps: &[Step]) -> Result<bool, Fail> {
+    let (_, small) = over_new(alloc, 1, steps)?;
+    let (other, large) = over_new(alloc, 1000, steps)?;
+    Ok(other.is_none() && small == large)
+}
+
 #[test]
 fn a_pool_of_one_makes_the_same_bytes(rt: HostRuntime) -> Result<(), Fail> {
-    for (row, steps) in [&CUSTOMERS[..], &NOTES[..], &MIXED[..], &IN_PLACE[..]]
-        .iter()
-        .enumerate()
-    {
-        let site = MemorySite::new(rt.alloc(), &[])?;
-        let (_, small) = first_other(rt.alloc(), site, 1, steps)?;
-        let site = MemorySite::new(rt.alloc(), &[])?;
-        let (other, large) = first_other(rt.alloc(), site, 1000, steps)?;
-        assert!(rt; other.is_none() && small == large, "row {row}");
+    for row in 0..ROWS {
+        assert!(rt; leave_the_same(rt.alloc(), row_of(row))?, "row {row}");
     }
     Ok(())
 }

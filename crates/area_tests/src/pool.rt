@@ -198,19 +198,28 @@ fn each_call_fails_alone(rt: HostRuntime) -> Result<(), Fail> {
 
 // ---- what stands on the list isn't read again
 
+/// Gets interval 4 of data set 4. Whether it has these bytes.
+fn gets(pool: &mut Pool, site: &mut MemorySite, wanted: &Bytes) -> bool {
+    match pool.get(site, 4, 4, 512) {
+        Ok(bytes) => bytes == *wanted && wanted.len() == 512,
+        Err(_) => false,
+    }
+}
+
+/// Whether interval 5 isn't got, as the site fails.
+fn fails(pool: &mut Pool, site: &mut MemorySite) -> bool {
+    matches!(pool.get(site, 4, 5, 512), Err(PoolFault::Failed))
+}
+
 /// Gets interval 4 of data set 4, over a site whose calls fail from this number on, and, where that succeeds, it once
 /// more and interval 5. Whether the two are the same bytes and the third failed.
 fn got_again(alloc: Global, stop: u64) -> Result<Option<bool>, AllocError> {
     let mut pool = Pool::new(alloc, 1)?;
     let mut site = MemorySite::stopping(alloc, stop)?;
-    let Ok(first) = pool.get(&mut site, 4, 4, 512) else {
-        return Ok(None);
-    };
-    let Ok(second) = pool.get(&mut site, 4, 4, 512) else {
-        return Ok(Some(false));
-    };
-    let third = pool.get(&mut site, 4, 5, 512);
-    Ok(Some(first == second && first.len() == 512 && matches!(third, Err(PoolFault::Failed))))
+    match pool.get(&mut site, 4, 4, 512) {
+        Ok(first) => Ok(Some(gets(&mut pool, &mut site, &first) && fails(&mut pool, &mut site))),
+        Err(_) => Ok(None),
+    }
 }
 
 #[test]

@@ -84,20 +84,30 @@ fn shows_its_state(bench: &mut Bench) -> Result<bool, Fail>
     Ok(shows(bench, 6, sixth)? && shows(bench, 0, first)?)
 }
 
+/// Whether a restart found the sealed entries, or all of them where a seal was cut short, and shows the databases behind
+/// those that it found.
+fn stands(bench: &Bench, again: &mut Bench) -> Result<bool, Fail>
+    requires { HasBank again.old.defs again.old.areas.places }
+{
+    let found = again.log.sealed();
+    let is_whole = found == bench.log.sealed() || found == bench.log.count();
+    Ok(is_whole && shows_its_state(again)?)
+}
+
+/// Whether a restart from this snapshot of the site stands.
+fn restarts_from(bench: &Bench, choice: u64) -> Result<bool, Fail> {
+    match bench.restarted_from(choice)? {
+        Some(mut again) => stands(bench, &mut again),
+        None => Ok(false),
+    }
+}
+
 /// Whether a restart from each snapshot of the site finds the sealed entries, or all of them where a seal was cut short,
 /// and shows the databases behind those that it finds.
-fn restarts(alloc: Global, bench: &Bench) -> Result<bool, Fail> {
+fn restarts(bench: &Bench) -> Result<bool, Fail> {
     for choice in 0..8u64 {
-        let site = MemorySite::from_snapshot(alloc, bench.site.snapshot_as(choice)?, &[])?;
-        match bench.restarted(site)? {
-            Some(mut again) => {
-                let found = again.log.sealed();
-                let is_whole = found == bench.log.sealed() || found == bench.log.count();
-                if !is_whole || !shows_its_state(&mut again)? {
-                    return Ok(false);
-                }
-            }
-            None => return Ok(false),
+        if !restarts_from(bench, choice)? {
+            return Ok(false);
         }
     }
     Ok(true)
@@ -114,10 +124,9 @@ enum Run {
 }
 
 /// Runs the steps until the site fails, and restarts from what that leaves.
-fn stopped(alloc: Global, site: MemorySite) -> Result<Run, Fail> {
-    let Some(mut bench) = Bench::formatted(alloc, site, 2)? else {
-        return Ok(Run::Unformatted);
-    };
+fn until_stopped(bench: &mut Bench) -> Result<Run, Fail>
+    requires { HasBank bench.old.defs bench.old.areas.places }
+{
     for (place, step) in STEPS.iter().enumerate() {
         match bench.step(step)? {
             Ended::Well => {}
@@ -125,12 +134,12 @@ fn stopped(alloc: Global, site: MemorySite) -> Result<Run, Fail> {
             Ended::Otherwise => return Ok(Run::Otherwise(place)),
         }
     }
-    restarted(alloc, &bench)
+    restarted(bench)
 }
 
 /// How a run ended from which restarts were made.
-fn restarted(alloc: Global, bench: &Bench) -> Result<Run, Fail> {
-    if restarts(alloc, bench)? {
+fn restarted(bench: &Bench) -> Result<Run, Fail> {
+    if restarts(bench)? {
         Ok(Run::Well(bench.site.faults()))
     } else {
         Ok(Run::Otherwise(STEPS.len()))
@@ -150,23 +159,53 @@ fn step_again(bench: &mut Bench, step: &Step) -> Result<Ended, Fail>
 }
 
 /// Runs the steps; one that the site fails in is done once more. Behind a seal that fails only a restart comes.
-fn with_a_fault(alloc: Global, site: MemorySite) -> Result<Run, Fail> {
-    let Some(mut bench) = Bench::formatted(alloc, site, 2)? else {
-        return Ok(Run::Unformatted);
-    };
+fn each_again(bench: &mut Bench) -> Result<Run, Fail>
+    requires { HasBank bench.old.defs bench.old.areas.places }
+{
     for (place, step) in STEPS.iter().enumerate() {
-        match step_again(&mut bench, step)? {
+        match step_again(bench, step)? {
             Ended::Well => {}
-            Ended::Failed if matches!(step, Seal) => return restarted(alloc, &bench),
+            Ended::Failed if matches!(step, Seal) => return restarted(bench),
             _ => return Ok(Run::Otherwise(place)),
         }
     }
     // The call that fails may be one of those that look.
-    if shows_its_state(&mut bench)? || shows_its_state(&mut bench)? {
-        restarted(alloc, &bench)
+    if shows_its_state(bench)? || shows_its_state(bench)? {
+        restarted(bench)
     } else {
         Ok(Run::Otherwise(STEPS.len()))
     }
+}
+
+/// Runs the steps where one call of the site fails alone, or all from one on.
+fn run_steps(bench: &mut Bench, alone: bool) -> Result<Run, Fail>
+    requires { HasBank bench.old.defs bench.old.areas.places }
+{
+    if alone {
+        each_again(bench)
+    } else {
+        until_stopped(bench)
+    }
+}
+
+/// Runs the steps over areas that are formatted on a site, of whose calls one fails alone, or all from one on.
+fn run_over(alloc: Global, site: MemorySite, alone: bool) -> Result<Run, Fail> {
+    match Bench::formatted(alloc, site, 2)? {
+        Some(mut bench) => run_steps(&mut bench, alone),
+        None => Ok(Run::Unformatted),
+    }
+}
+
+/// How a run ends over a site that fails from this call on.
+fn stopped(alloc: Global, call: u64) -> Result<Run, Fail> {
+    let site = MemorySite::stopping(alloc, call)?;
+    run_over(alloc, site, false)
+}
+
+/// How a run ends over a site that fails at this call.
+fn with_a_fault(alloc: Global, call: u64) -> Result<Run, Fail> {
+    let site = MemorySite::new(alloc, &[call])?;
+    run_over(alloc, site, true)
 }
 
 /// The run makes fewer calls than this.
@@ -175,8 +214,7 @@ const MOST_CALLS: u64 = 200;
 #[test]
 fn a_restart_behind_each_stop_has_the_sealed_entries(rt: HostRuntime) -> Result<(), Fail> {
     for call in 0..MOST_CALLS {
-        let site = MemorySite::stopping(rt.alloc(), call)?;
-        match stopped(rt.alloc(), site)? {
+        match stopped(rt.alloc(), call)? {
             Run::Unformatted => {}
             Run::Otherwise(step) => assert!(rt; false, "call {call}, step {step}"),
             Run::Well(0) => return Ok(()),
@@ -190,8 +228,7 @@ fn a_restart_behind_each_stop_has_the_sealed_entries(rt: HostRuntime) -> Result<
 #[test]
 fn each_call_may_fail_alone(rt: HostRuntime) -> Result<(), Fail> {
     for call in 0..MOST_CALLS {
-        let site = MemorySite::new(rt.alloc(), &[call])?;
-        match with_a_fault(rt.alloc(), site)? {
+        match with_a_fault(rt.alloc(), call)? {
             Run::Unformatted => {}
             Run::Otherwise(step) => assert!(rt; false, "call {call}, step {step}"),
             Run::Well(0) => return Ok(()),

@@ -1,6 +1,7 @@
 //! Scripts run by hand: each call that they ask is looked at, and answered as a database would. What is wanted is taken
 //! from the language's description.
-ghost use Rattle.std.specs.Prelude.{◌<◌, IfSome, length};
+ghost use Rattle.fp_model.specs.WellFormed.{AreDefs};
+ghost use Rattle.std.specs.Prelude.{◌≡◌, ◌<◌, IfSome, length};
 
 use self::End::{Reply, Roll};
 use self::Turn::{Lettered, Shows, Told};
@@ -159,6 +160,29 @@ fn is_asked(alloc: Global, asked: &Call, turn: &Turn) -> Result<bool, AllocError
 
 // ---- runs
 
+// Whether a script asks the call of a turn, twice until it is answered as the turn says.
+fn follows_turn(
+    scripts: &Scripts,
+    defs: &Defs,
+    message: &Message,
+    program: &mut Program,
+    turn: &Turn,
+    alloc: Global,
+) -> Result<bool, AllocError>
+    requires { program.old.number < length scripts.now.scripts }
+    ensures { program.new.number ≡ program.old.number }
+{
+    let _ = program.next(scripts, defs, message)?;
+    let Next::Call(asked) = program.next(scripts, defs, message)? else {
+        return Ok(false);
+    };
+    if !is_asked(alloc, &asked, turn)? {
+        return Ok(false);
+    }
+    program.give(answer(alloc, turn)?);
+    Ok(true)
+}
+
 // Whether a script asks these calls in this order, each twice until it is answered as its turn says, and then ends so.
 fn follows(
     scripts: &Scripts,
@@ -172,14 +196,9 @@ fn follows(
     requires { program.old.number < length scripts.now.scripts }
 {
     for turn in turns {
-        let _ = program.next(scripts, defs, message)?;
-        let Next::Call(asked) = program.next(scripts, defs, message)? else {
-            return Ok(false);
-        };
-        if !is_asked(alloc, &asked, turn)? {
+        if !follows_turn(scripts, defs, message, program, turn, alloc)? {
             return Ok(false);
         }
-        program.give(answer(alloc, turn)?);
     }
     Ok(is_end(end, &program.next(scripts, defs, message)?))
 }
@@ -203,9 +222,26 @@ fn runs(
     turns: &[Turn],
     end: &End,
 ) -> Result<bool, Fail> {
-    let number = number_of(scripts, message.tran).ok_or("no such transaction")?;
+    let Some(number) = number_of(scripts, message.tran) else {
+        return Err(Fail::from("no such transaction"));
+    };
     let mut program = Program::start(alloc, scripts, number);
     Ok(follows(scripts, defs, message, &mut program, turns, end, alloc)?)
+}
+
+// The same where this is the text of the scripts.
+fn runs_by(
+    alloc: Global,
+    text: &[u8],
+    defs: &Defs,
+    message: &Message,
+    turns: &[Turn],
+    end: &End,
+) -> Result<bool, Fail>
+    requires { AreDefs defs.now }
+{
+    let scripts = read(alloc, text, defs)?;
+    runs(alloc, &scripts, defs, message, turns, end)
 }
 
 // Whether the transaction goes so, where these are the scripts.
@@ -219,8 +255,7 @@ fn goes(
 ) -> Result<bool, Fail> {
     let message = message(alloc, Name(*tran), words)?;
     let defs = sample(alloc)?;
-    let scripts = read(alloc, text, &defs)?;
-    runs(alloc, &scripts, &defs, &message, turns, end)
+    runs_by(alloc, text, &defs, &message, turns, end)
 }
 
 // A customer with ten notes, all alike: no eleventh is asked for.
@@ -238,7 +273,8 @@ const TEN_NOTES: &[Turn] = &[
     Shows(b"GNP 2 1,", 1, b"N       "),
 ];
 
-static CASES: [Case; 30] = [
+// Cases of accounts.
+static OF_ACCOUNTS: [Case; 13] = [
     Case(
         b"DEPOSIT ",
         b"A001 10",
@@ -334,6 +370,10 @@ static CASES: [Case; 30] = [
         ],
         Reply(b"T001"),
     ),
+];
+
+// Those of customers come behind them.
+static OF_CUSTOMERS: [Case; 13] = [
     Case(
         b"NEWCUST ",
         b"C001 ANN",
@@ -422,6 +462,10 @@ static CASES: [Case; 30] = [
         Reply(b"C002 C001"),
     ),
     Case(b"LISTC   ", b"", &[Told(b"GN 2 0,", *b"GB")], Reply(b"")),
+];
+
+// Those of tellers come last.
+static OF_TELLERS: [Case; 4] = [
     Case(
         b"HIRE    ",
         b"T002",
@@ -449,12 +493,52 @@ static CASES: [Case; 30] = [
     ),
 ];
 
+// How many cases there are.
+const COUNT: usize = 30;
+
+// The check pays for a table in each function that names it, and more than twice for one twice as long.
+fn of_accounts() -> &'static [Case] {
+    &OF_ACCOUNTS
+}
+
+// So each table has a function.
+fn of_customers() -> &'static [Case] {
+    &OF_CUSTOMERS
+}
+
+// The cases of tellers.
+fn of_tellers() -> &'static [Case] {
+    &OF_TELLERS
+}
+
+// The case of a place.
+fn case_at(place: usize) -> Option<&'static Case> {
+    if place < 13 {
+        return of_accounts().get(place);
+    }
+    if place < 26 {
+        return of_customers().get(place - 13);
+    }
+    of_tellers().get(place - 26)
+}
+
+// The first case that goes otherwise with these scripts; the number of cases where there is none.
+fn first_other_case(alloc: Global, text: &[u8]) -> Result<usize, Fail> {
+    for place in 0..COUNT {
+        let Some(Case(tran, words, turns, end)) = case_at(place) else {
+            return Ok(place);
+        };
+        if !goes(alloc, text, tran, words, turns, end)? {
+            return Ok(place);
+        }
+    }
+    Ok(COUNT)
+}
+
 #[test]
 fn scripts_ask_their_calls_and_end(rt: HostRuntime) -> Result<(), Fail> {
-    for (place, Case(tran, words, turns, end)) in CASES.iter().enumerate() {
-        let is_so = goes(rt.alloc(), SAMPLE.scripts, tran, words, turns, end)?;
-        assert!(rt; is_so, "case {place}");
-    }
+    let place = first_other_case(rt.alloc(), SAMPLE.scripts)?;
+    assert!(rt; place == COUNT, "case {place}");
     Ok(())
 }
 

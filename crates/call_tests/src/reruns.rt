@@ -5,7 +5,7 @@ ghost use Rattle.past_replay.specs.Setup.{IsSetup};
 ghost use Rattle.past_segments.specs.Pasts.{ArePastsOf};
 ghost use Rattle.past_segments.specs.Times.{IsSettledBy};
 ghost use Rattle.std.specs.List.{AllByRecursion};
-ghost use Rattle.std.specs.Prelude.{◌≡◌, ◌+◌, ◌<◌, ◌≤◌, ◌^◌, IfOk, IfSome, OnOk};
+ghost use Rattle.std.specs.Prelude.{◌≡◌, ◌+◌, ◌<◌, ◌≤◌, ◌^◌, IfOk, IfSome, OnOk, true};
 
 use crate::systems::{Ground, TELLERS, message};
 use fp_model::{Defs, List, Name, Outcome, key_length};
@@ -89,6 +89,42 @@ fn empty(alloc: Global, defs: &Defs) -> Result<Vec<PastSegments>, Fail>
     Ok(pasts)
 }
 
+// Runs an entry again at a place. Whether it comes to what it says.
+fn comes(
+    alloc: Global,
+    pasts: &mut [PastSegments],
+    anchors: &mut Anchors,
+    ground: &Ground,
+    place: u64,
+    entry: &Entry,
+) -> Result<bool, AllocError>
+    requires setup { IsSetup ground.now.defs (kinds_of ground.now.exits) ground.now.scripts.scripts }
+    requires are { ArePastsOf ground.now.defs.msdbs pasts.old }
+    requires settled { AllByRecursion (IsSettledBy place) pasts.old }
+    requires shape { AreDedbsOf ground.now.defs anchors.old }
+    requires place { place + 1 < 2 ^ 64 }
+    ensures are { ArePastsOf ground.now.defs.msdbs pasts.new }
+    ensures settled { IfOk result (λ so. so ≡ true → AllByRecursion (IsSettledBy (place + 1)) pasts.new) }
+    ensures shape { OnOk result (AreDedbsOf ground.now.defs anchors.new) }
+{
+    let Ground {
+        exits,
+        defs,
+        scripts,
+    } = ground;
+    let message = message(alloc, Name(*entry.0), entry.1)?;
+    let Some(number) = scripts.find(&message.tran) else {
+        return Ok(false);
+    };
+    let Some(notes) = notes(alloc, entry, place)? else {
+        return Ok(false);
+    };
+    let alone = replay(
+        alloc, pasts, anchors, defs, scripts, exits, place, &message, number, &notes,
+    )?;
+    Ok(is_so(&alone, &entry.3))
+}
+
 // Runs entries again on databases without segments, each at its place in the list. The first that comes to something
 // else.
 fn first_other(
@@ -103,37 +139,27 @@ fn first_other(
     requires settled { AllByRecursion (IsSettledBy 0) pasts.old }
     requires shape { AreDedbsOf ground.now.defs anchors.old }
 {
-    let Ground {
-        exits,
-        defs,
-        scripts,
-    } = ground;
     for at in 0..entries.len() {
-        let place = at as u64;
-        let entry = &entries[at];
-        let message = message(alloc, Name(*entry.0), entry.1)?;
-        let Some(number) = scripts.find(&message.tran) else {
-            return Ok(Some(at));
-        };
-        let Some(notes) = notes(alloc, entry, place)? else {
-            return Ok(Some(at));
-        };
-        let alone = replay(
-            alloc, pasts, anchors, defs, scripts, exits, place, &message, number, &notes,
-        )?;
-        if !is_so(&alone, &entry.3) {
+        if !comes(alloc, pasts, anchors, ground, at as u64, &entries[at])? {
             return Ok(Some(at));
         }
     }
     Ok(None)
 }
 
+// The same on databases that it makes.
+fn first_other_of(alloc: Global, ground: &Ground, entries: &[Entry]) -> Result<Option<usize>, Fail>
+    requires { IsSetup ground.now.defs (kinds_of ground.now.exits) ground.now.scripts.scripts }
+{
+    let mut pasts = empty(alloc, &ground.defs)?;
+    let mut anchors = Anchors::new(alloc, &ground.defs)?;
+    Ok(first_other(alloc, &mut pasts, &mut anchors, ground, entries)?)
+}
+
 /// Runs entries of tellers again. The first that comes to something else than it says.
 fn run_entries(alloc: Global, entries: &[Entry]) -> Result<Option<usize>, Fail> {
     let ground = TELLERS.read(alloc)?;
-    let mut pasts = empty(alloc, &ground.defs)?;
-    let mut anchors = Anchors::new(alloc, &ground.defs)?;
-    Ok(first_other(alloc, &mut pasts, &mut anchors, &ground, entries)?)
+    first_other_of(alloc, &ground, entries)
 }
 
 /// Tellers are hired and paid. Notes name older states, and a second withdrawal fails at the sync point.

@@ -58,13 +58,20 @@ static AFTER: [(Option<&[u8]>, Option<&[u8]>); 4] = [
     (Some(b"C003"), None),
 ];
 
+// Puts the segments into a store.
+fn fill(alloc: Global, store: &mut MsdbStore) -> Result<(), AllocError>
+    ensures { length store.new.msdbs ≡ length store.old.msdbs }
+{
+    store.apply(&items(alloc)?)
+}
+
 // A store of the segments.
 fn filled(alloc: Global) -> Result<MsdbStore, AllocError>
     ensures { IfOk result (λ store. length store.msdbs ≡ 1) }
 {
     let defs = defs(alloc, true)?;
     let mut store = empty(alloc, &defs)?;
-    store.apply(&items(alloc)?)?;
+    fill(alloc, &mut store)?;
     Ok(store)
 }
 

@@ -12,7 +12,7 @@ ghost use Rattle.std.specs.Prelude.{◌≡◌, ◌<◌, ◌^◌, ◌∷◌, [], 
 use crate::accounts::{defs, field_call, insert};
 use crate::queues::Action::{Add, Insert, Verify};
 use crate::queues::{A, B, C, Step, queue, segments};
-use fp_model::{Bytes, Deferred, Entry, List, Outcome, Resource};
+use fp_model::{Bytes, Deferred, Defs, Entry, List, Outcome, Resource};
 use fp_site::Site;
 use log_groups::{Front, Log, LogFault};
 use memory_site::MemorySite;
@@ -153,16 +153,51 @@ fn goes(alloc: Global, store: &mut MsdbStore, log: &mut Log, row: &Row) -> Resul
     Ok(log.count() == row.entries && log.spare() >= ROOM && segments.as_slice() == row.segments)
 }
 
-#[test]
-fn drafts_come_to_what_is_wanted(rt: HostRuntime) -> Result<(), Fail> {
-    let alloc = rt.alloc();
-    let defs = defs(alloc, true)?;
-    let mut store = MsdbStore::start(alloc, &defs)?;
+// The rows. The check pays for a table in each function that names it.
+fn rows() -> &'static [Row] {
+    &ROWS
+}
+
+// The first row that comes to something else, on a store of these definitions and a log; the number of rows where there
+// is none.
+fn first_other(
+    alloc: Global,
+    defs: &Defs,
+    store: &mut MsdbStore,
+    log: &mut Log,
+) -> Result<usize, Cause>
+    requires one { (def : DefOf) × (defs.now.msdbs ≡ def ∷ []) × IsMsdbDef def × (def.length ≡ 8)
+        × (key_length def.fields ≡ 4) }
+    requires store { IsOf defs.now.msdbs store.old }
+{
+    let rows = rows();
+    for (place, row) in rows.iter().enumerate() {
+        if !goes(alloc, store, log, row)? {
+            return Ok(place);
+        }
+    }
+    Ok(rows.len())
+}
+
+// A log without entries that keeps its room.
+fn roomy_log(alloc: Global) -> Result<Log, LogFault> {
     let mut log = empty_log(alloc)?;
     log.reserve(ROOM)?;
-    for (place, row) in ROWS.iter().enumerate() {
-        assert!(rt; goes(alloc, &mut store, &mut log, row)?, "row {place}");
-    }
+    Ok(log)
+}
+
+// The same on a store and a log without entries.
+fn first_other_draft(alloc: Global) -> Result<usize, Fail> {
+    let defs = defs(alloc, true)?;
+    let mut store = MsdbStore::start(alloc, &defs)?;
+    let mut log = roomy_log(alloc)?;
+    Ok(first_other(alloc, &defs, &mut store, &mut log)?)
+}
+
+#[test]
+fn drafts_come_to_what_is_wanted(rt: HostRuntime) -> Result<(), Fail> {
+    let place = first_other_draft(rt.alloc())?;
+    assert!(rt; place == rows().len(), "row {place}");
     Ok(())
 }
 

@@ -222,16 +222,33 @@ fn ask_all(
     Ok(())
 }
 
-// Runs a transaction of these steps, where there are no exits.
+// Runs a transaction of these steps on a store, where there are no exits.
+fn run_on(
+    alloc: Global,
+    steps: &[Step],
+    store: &MsdbStore,
+    defs: &Defs,
+    run: &mut Run,
+) -> Result<(), AllocError>
+    requires defs { AllByRecursion IsMsdbDef defs.now.msdbs }
+    requires alone { defs.now.dedbs ≡ [] }
+    requires one { (def : DefOf) × (defs.now.msdbs ≡ def ∷ []) × IsMsdbDef def × (def.length ≡ 8)
+        × (key_length def.fields ≡ 4) }
+    requires store { IsOf defs.now.msdbs store.now }
+{
+    let exits = Exits::new(Vec::new(alloc), Vec::new(alloc));
+    let mut work = Work::new(alloc, defs)?;
+    let mut locks = Locks::new(alloc, REGION)?;
+    ask_all(
+        alloc, &mut work, &mut locks, steps, store, defs, &exits, run,
+    )
+}
+
+// The same on the store above.
 fn run_of(alloc: Global, dynamic: bool, steps: &[Step], run: &mut Run) -> Result<(), AllocError> {
     let defs = defs(alloc, dynamic)?;
     let store = store(alloc, &defs)?;
-    let exits = Exits::new(Vec::new(alloc), Vec::new(alloc));
-    let mut work = Work::new(alloc, &defs)?;
-    let mut locks = Locks::new(alloc, REGION)?;
-    ask_all(
-        alloc, &mut work, &mut locks, steps, &store, &defs, &exits, run,
-    )
+    run_on(alloc, steps, &store, &defs, run)
 }
 
 // GU of a key, GU without one, GN up to the end, and gets that a main storage database doesn't have.

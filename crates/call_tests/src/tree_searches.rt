@@ -81,16 +81,39 @@ const GONE: &[Call] = &[
     Call::Find(Some(A2_D1), None, &[], Some(A3)),
 ];
 
-static RUNS: [(&str, &[Call]); 4] = [
-    ("the order is hierarchical", ORDER),
-    ("a search stays below its parent", WITHIN),
-    ("arguments name types and keys", ARGUMENTS),
-    ("a position need not stand", GONE),
-];
+// The check pays for a table in each function that names it, and more than twice for one twice as long.
+fn order() -> &'static [Call] {
+    ORDER
+}
+
+// So each table has a function.
+fn within() -> &'static [Call] {
+    WITHIN
+}
+
+// The calls with types and keys.
+fn with_arguments() -> &'static [Call] {
+    ARGUMENTS
+}
+
+// The calls at positions that are gone.
+fn gone() -> &'static [Call] {
+    GONE
+}
+
+// Each run with its name.
+fn runs() -> [(&'static str, &'static [Call]); 4] {
+    [
+        ("the order is hierarchical", order()),
+        ("a search stays below its parent", within()),
+        ("arguments name types and keys", with_arguments()),
+        ("a position need not stand", gone()),
+    ]
+}
 
 #[test]
 fn searches_find_what_is_wanted(rt: HostRuntime) -> Result<(), Fail> {
-    for (name, calls) in &RUNS {
+    for (name, calls) in runs() {
         assert!(rt; all_answer(rt.alloc(), calls)?, "{name}");
     }
     Ok(())

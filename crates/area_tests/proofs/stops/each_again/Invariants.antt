@@ -1,5 +1,5 @@
 use Rattle.area_tests.specs.Bank.{HasBank}
-use Rattle.area_tests.proofs.stops.with_a_fault.Given as goal
+use Rattle.area_tests.proofs.stops.each_again.Given as goal
 
 abbrev pub invariant-loop-place : goal.invariant-loop-place
 invariant-loop-place l = HasBank l.bench.defs l.bench.areas.places
