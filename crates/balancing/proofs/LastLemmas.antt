@@ -1,6 +1,5 @@
 -- Terminals in their handles: what an edit of the handles makes of them.
 use Rattle.std.proofs.Common.{Box, ◌≡◌, ℕ, zero, suc, ◌<◌, ◌≤◌, List, [], ◌∷◌, ◌++◌, map, length, take, drop, refl, sym, ◌∙◌, ap, true, Some, None, slice_get, slice_index_or, arith}
-use Rattle.std.specs.Prelude.{if◌then◌else◌, Result, Ok, Err, IsOk, is_ok}
 use Rattle.std.specs.declared.alloc.Global.{Global}
 use Rattle.std.proofs.lemmas.List.{get_or-map}
 use Rattle.std.proofs.lemmas.Option.{slice_get-map, slice_get_past}
@@ -11,7 +10,7 @@ use Rattle.fp_model.specs.State.{ascend, is_below}
 use Rattle.balancing.specs.Numbered.{as_last, lasts_in}
 use Rattle.key_order.specs.Places.{IsPlace}
 use Rattle.balancing.specs.declared.lasts.Kept.{Kept}
-use Rattle.key_order.proofs.Ascending.{not_both, stands_there}
+use Rattle.key_order.proofs.Ascending.{stands_there}
 use Rattle.plain_laws.proofs.Lists.{map_twice}
 
 -- the name of a terminal

@@ -1,3 +1,4 @@
 pub mod NameLemmas
 pub mod QueueLemmas
 mod LastLemmas
+mod GroupLemmas

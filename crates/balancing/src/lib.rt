@@ -4,8 +4,10 @@
 //! one message under way at most: from the moment that it is queued the terminal is busy, until it is answered.
 #![tactic(auto)]
 
+mod groups;
 mod lasts;
 mod queues;
 
+pub use groups::group_count;
 pub use lasts::Lasts;
 pub use queues::{Offer, Queues};

@@ -1,5 +1,5 @@
 -- The engine at rest: nothing is queued, held or locked, no region is at work, and all entries are sealed.
-use Rattle.std.proofs.Common.{◌≡◌, refl, sym, ◌∙◌, ap, subst, arith, ℕ, zero, suc, List, [], ◌∷◌, length, map, replicate, None}
+use Rattle.std.proofs.Common.{◌≡◌, refl, sym, ◌∙◌, ap, subst, arith, ℕ, zero, suc, ◌≤◌, List, [], ◌∷◌, length, map, replicate, None}
 use Rattle.std.specs.Prelude.{sum_by}
 use Rattle.std.specs.List.{AllByRecursion, AllZip}
 use Rattle.std.proofs.lemmas.List.{length-map, length-replicate}
@@ -10,6 +10,7 @@ use Rattle.ci_locks.specs.Standing.{Shows}
 use Rattle.ci_locks.specs.Table.{standing}
 use Rattle.drain_laws.specs.Measure.{active_in, one_if_active}
 use Rattle.fp_model.specs.declared.definitions.Defs.{Defs}
+use Rattle.fp_model.specs.WellFormed.{AreDefs, AreGroups}
 use Rattle.fp_model.specs.declared.name.Name.{Name}
 use Rattle.fp_model.specs.declared.scripts.Script.{Script}
 use Rattle.fp_model.specs.History.{History, place_of}
@@ -45,6 +46,12 @@ all_resting format (g ∷ gs) = (tt, all_resting format gs)
 all_empty : {A : Type 0} (P : A → Type 0) (n : ℕ) → AllByRecursion (AllByRecursion P) (replicate n [])
 all_empty P zero = tt
 all_empty P (suc n) = (tt, all_empty P n)
+
+-- there are regions, and each has its group
+pub grouped : (defs : Defs) (regions : List ℕ) → AreDefs defs → regions ≡ defs.regions
+    → (1 ≤ length regions) × AreGroups regions
+grouped defs regions are same =
+    subst (λ r. (1 ≤ length r) × AreGroups r) (sym same) (are.regions.0, are.groups)
 
 -- So the engine stands for the machine at rest, behind any entries that come to its databases.
 pub rests : (engine : Engine) (lines : List (List ℕ)) (h : History)

@@ -10,10 +10,9 @@ ghost use Rattle.std.specs.Prelude.{◌≡◌, ◌≤◌, ◌-◌, ℕ, [], IfOk
 
 use crate::numbering::Kept;
 use crate::stepping::Started;
-use balancing::{Lasts, Queues};
+use balancing::{Lasts, Queues, group_count};
 use ci_locks::Locks;
 use dli_calls::Work;
-use fp_defs::group_count;
 use fp_model::{Bytes, Call, Defs, List, Message, Outcome, Resource};
 use log_groups::Log;
 use msdb_store::MsdbStore;
@@ -151,7 +150,7 @@ impl<'a> Engine<'a> {
             scripts,
             format,
             held: None,
-            queues: Queues::new(alloc, group_count(defs))?,
+            queues: Queues::new(alloc, group_count(defs.regions.as_slice()))?,
             regions: idle_regions(alloc, regions)?,
             locks: Locks::new(alloc, regions as u8)?,
             store: msdbs,

@@ -1,5 +1,5 @@
 -- A data entry database that is read is well formed, and so are all of them together.
-use Rattle.std.proofs.Common.{◌≡◌, ℕ, ◌+◌, ◌-◌, ◌≤◌, List, [], ◌∷◌, ◌++◌, length, map, Bool, true, false, cond, ◌||◌, ◌==◌, ◌⊎◌, inl, inr, Ok, Err, ℤ, pos, negsuc, codes, refl, sym, subst, ◌∙◌, append_assoc, arith}
+use Rattle.std.proofs.Common.{◌≡◌, ℕ, ◌+◌, ◌-◌, ◌≤◌, List, [], ◌∷◌, ◌++◌, length, map, true, false, ◌||◌, ◌==◌, inl, inr, Ok, ℤ, pos, negsuc, codes, refl, sym, subst, ◌∙◌, append_assoc, arith}
 use Rattle.std.specs.Prelude.{Contains}
 use Rattle.std.specs.List.{AllByRecursion, IsDistinct}
 use Rattle.std.proofs.lemmas.Bool.Decides.{nat_tests}
@@ -20,7 +20,6 @@ use Rattle.fp_defs.specs.Msdbs.{msdb_names}
 use Rattle.fp_defs.specs.Segments.{segment_names, segment_of, all_fit}
 use Rattle.fp_defs.specs.Areas.{area_names, area_of}
 use Rattle.fp_defs.specs.Dedbs.{dedb_names, areas_named, is_interval_size, size_in, interval_size_at, depth_from, intervals_of, ended, dedb_behind, dedb_of}
-use Rattle.def_tables.specs.declared.fault.DefsFault.{DefsFault}
 use Rattle.def_tables.specs.declared.fault.DefsFault.TheVariants.{BadField, OutOfLimit}
 use Rattle.def_tables.specs.declared.keys.Form.TheVariants.{Dedb}
 use Rattle.fp_defs.proofs.Beside.{Beside, IsRead, read_in_turn, beside_map, beside_each}

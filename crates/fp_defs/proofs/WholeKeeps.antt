@@ -1,5 +1,5 @@
 -- Definitions that are read are well formed.
-use Rattle.std.proofs.Common.{◌≡◌, ℕ, zero, suc, ◌+◌, ◌<◌, ◌≤◌, List, [], ◌∷◌, ◌++◌, length, map, max, get_or, fold, find, Bool, true, false, cond, not, ◌||◌, ◌==◌, ◌⊎◌, inl, inr, Option, Some, None, Result, Ok, Err, pos, nat_lt, codes, refl, sym, ap, subst, ◌∙◌, append_assoc, arith}
+use Rattle.std.proofs.Common.{◌≡◌, ℕ, zero, suc, ◌+◌, ◌<◌, ◌≤◌, List, [], ◌∷◌, ◌++◌, length, map, max, get_or, fold, find, Bool, true, false, cond, not, ◌==◌, ◌⊎◌, inl, inr, Option, Some, None, Result, Ok, Err, pos, nat_lt, codes, refl, sym, ap, subst, ◌∙◌, append_assoc, arith}
 use Rattle.std.specs.Prelude.{⊤, Contains, flat_map, IfOk}
 use Rattle.std.specs.List.{AllByRecursion, IsDistinct, list_any}
 use Rattle.std.specs.Option.{option_map_or}
@@ -7,7 +7,7 @@ use Rattle.std.proofs.lemmas.Bool.Decides.{nat_tests}
 use Rattle.std.proofs.lemmas.Bool.{cases_lt, or_cases}
 use Rattle.std.proofs.lemmas.Grind.{flat_map-append}
 use Rattle.std.proofs.lemmas.List.{map-append}
-use Rattle.toml.specs.Data.{Data, Items, Members, get_member, as_integer, as_array}
+use Rattle.toml.specs.Data.{Items, Members, as_array}
 use Rattle.fp_model.specs.declared.name.Name.{Name}
 use Rattle.fp_model.specs.declared.definitions.MsdbDef.{MsdbDef}
 use Rattle.fp_model.specs.declared.definitions.AreaDef.{AreaDef}
@@ -17,7 +17,7 @@ use Rattle.fp_model.specs.Texts.{same_text}
 use Rattle.fp_model.specs.State.{numbers_up}
 use Rattle.fp_model.specs.WellFormed.{Between, AreDistinct, IsMsdbDef, IsDedbDef, AreGroups, AreDefs}
 use Rattle.def_tables.specs.Readings.{or_fault, in_turn, Gives}
-use Rattle.def_tables.specs.Keys.{occurs, only, needed, within, number_within, number_or, exit_at, tables_or_none}
+use Rattle.def_tables.specs.Keys.{occurs, only, needed, within, number_or, exit_at, tables_or_none}
 use Rattle.fp_defs.specs.Msdbs.{msdb_names, msdb_of}
 use Rattle.fp_defs.specs.Areas.{area_names}
 use Rattle.fp_defs.specs.Dedbs.{dedb_names, areas_named, intervals_of, dedb_of}
@@ -29,7 +29,7 @@ use Rattle.fp_defs.proofs.Beside.{Beside, IsRead, read_in_turn, beside_map, besi
 use Rattle.fp_defs.proofs.Distinct.{no_texts, nothing_more, distinct_beside}
 use Rattle.fp_defs.proofs.DedbLemmas.{number_or-within, number_within-within}
 use Rattle.fp_defs.proofs.DedbKeeps.{DedbKeeps, dedb_keeps}
-use Rattle.def_tables.proofs.KeyLemmas.{within-ok, within-any}
+use Rattle.def_tables.proofs.KeyLemmas.{within-ok}
 use Rattle.fp_defs.proofs.MsdbLemmas.{MsdbKeeps, msdb_keeps}
 use Rattle.def_tables.proofs.Steps.{ok_step, ok_same}
 use Rattle.plain_laws.proofs.Lists.{greatest_from, map_twice}
@@ -70,20 +70,6 @@ greatest_above : (groups : List ℕ) (most k g : ℕ) → k < length groups → 
 greatest_above [] most k g within is = absurd (omega arith)
 greatest_above (h ∷ hs) most zero g within is = let r = greatest_from hs (max most h) in grind (arith, is)
 greatest_above (h ∷ hs) most (suc k) g within is = greatest_above hs (max most h) k g (omega arith) is
-
-greatest_below : (groups : List ℕ) (most : ℕ) → most ≤ 16 → AllByRecursion (Between 1 16) groups
-    → fold max most groups ≤ 16
-greatest_below [] most low all = low
-greatest_below (g ∷ gs) most low all = greatest_below gs (max most g) (grind (arith, low, all.0.1)) all.1
-
--- there are 1 to 16 groups
-pub groups_bounded : (groups : List ℕ) → 1 ≤ length groups → AllByRecursion (Between 1 16) groups
-    → (1 ≤ fold max 0 groups) × (fold max 0 groups ≤ 16)
-groups_bounded [] some all = absurd (omega (arith, some))
-groups_bounded (g ∷ gs) some all = (
-  let r = greatest_from gs (max 0 g) in grind (arith, all.0.0, r),
-  greatest_below (g ∷ gs) 0 (omega arith) all,
-)
 
 no_gap-by : (o : Option ℕ) (done : ⊤) → option_map_or (λ g. Err (OutOfLimit (codes "regions") (pos g))) o (Ok tt) ≡ Ok
     done → o ≡ None

@@ -9,4 +9,4 @@ mod segments;
 mod whole;
 
 pub use def_tables::DefsFault;
-pub use whole::{group_count, read_defs};
+pub use whole::read_defs;

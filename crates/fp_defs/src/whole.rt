@@ -4,14 +4,14 @@ ghost use Rattle.std.specs.List.{AllByRecursion, list_any};
 ghost use Rattle.toml.specs.View.{array_view, table_view};
 ghost use Rattle.fp_model.specs.WellFormed.{AreDefs};
 ghost use Rattle.fp_exits.specs.Kinds.{has_kind, kinds_of};
-ghost use Rattle.fp_model.specs.Product.{groups_defined};
 ghost use Rattle.def_tables.specs.Readings.{Gives, in_turn};
-ghost use Rattle.fp_defs.specs.Whole.{items_in, group_of, greatest, missing_group, no_gap, groups_in, regions_at, databases_of, defs_in, document_of, defs_of};
+ghost use Rattle.fp_defs.specs.Whole.{items_in, group_of, missing_group, no_gap, groups_in, regions_at, databases_of, defs_in, document_of, defs_of};
 ghost use Rattle.fp_defs.specs.Exits.{defs_for};
 
 use crate::dedbs::dedbs_of;
 use crate::exits::lacking;
 use crate::msdbs::msdbs_of;
+use balancing::group_count;
 use def_tables::{
     DefsFault, Form, bad_field, count_within, exit_at, needed, number_or, number_within, only,
     out_of_limit, tables_or_none,
@@ -36,17 +36,6 @@ fn groups_of(alloc: Global, items: &Vec<Value>) -> Result<List<u8>, DefsFault>
     Ok(groups)
 }
 
-/// The greatest group.
-fn greatest(groups: &[u8]) -> u8
-    ensures { result ≡ greatest groups.now }
-{
-    let mut most = 0;
-    for group in groups {
-        most = (*group).max(most);
-    }
-    most
-}
-
 /// Whether a region has a group.
 fn has_group(groups: &[u8], group: u8) -> bool
     ensures { result ≡ list_any (λ h. h == group) groups.now }
@@ -63,7 +52,7 @@ fn has_group(groups: &[u8], group: u8) -> bool
 fn missing_group(groups: &[u8]) -> Option<u8>
     ensures { result ≡ missing_group groups.now }
 {
-    for i in 0..greatest(groups) {
+    for i in 0..group_count(groups) {
         if !has_group(groups, i + 1) {
             return Some(i + 1);
         }
@@ -198,12 +187,4 @@ pub fn read_defs(alloc: Global, bytes: &[u8], exits: &Exits) -> Result<Defs, Def
         Some(kind) => Err(DefsFault::NoExit(kind)),
         None => Ok(defs),
     }
-}
-
-/// How many balancing groups definitions have: as many as the greatest of their regions' groups says.
-pub fn group_count(defs: &Defs) -> u8
-    ensures count { result ≡ groups_defined defs.now }
-    ensures bounds { AreDefs defs.now → (1 ≤ result) × (result ≤ 16) }
-{
-    greatest(defs.regions.as_slice())
 }

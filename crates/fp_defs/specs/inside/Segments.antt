@@ -1,5 +1,5 @@
 -- What bodies and proofs need of Segments, beside what contracts say.
-use Rattle.std.specs.Prelude.{◌<◌, IfSome, length}
+use Rattle.std.specs.Prelude.{◌<◌, IfSome}
 use Rattle.fp_model.specs.declared.definitions.SegDef.{SegDef}
 
 -- ---- no part of what a text means: a condition of a function that makes definitions of drafts
