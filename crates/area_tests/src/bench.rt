@@ -2,6 +2,7 @@
 ghost use Rattle.area_staging.specs.Flags.{AreFlagged};
 ghost use Rattle.area_tests.specs.Bank.{HasBank, HasCustomers, IsBank, IsNote};
 ghost use Rattle.fp_model.specs.ItemTargets.{is_ascending};
+ghost use Rattle.fp_model.specs.LogText.{FitsEntry, KeepsRules};
 ghost use Rattle.std.specs.List.{AllByRecursion};
 ghost use Rattle.std.specs.Prelude.{◌≡◌, ◌≤◌, IfOk, IfSome, true};
 
@@ -10,7 +11,7 @@ use crate::changes::{Change, all_fit, are_notes, have_customers, insert_of, put,
 use crate::logging::{apply_log, entry_of, make_log, open_log};
 use ci_pool::{Owed, Pool};
 use dedb_area::{AreaFault, Areas};
-use fp_model::{AnchorChange, Bytes, Defs, Item, List, SeqInsert};
+use fp_model::{AnchorChange, Bytes, Defs, Entry, Item, List, SeqInsert};
 use log_groups::Log;
 use memory_site::MemorySite;
 use std::alloc::{AllocError, Global};
@@ -153,7 +154,8 @@ fn open_areas(alloc: Global, defs: &Defs, bound: u32) -> Result<Areas, AllocErro
     Areas::open(alloc, defs, pool)
 }
 
-/// The log of a site, whose entries from this one on are applied to areas. None where the site failed, or they can't be.
+/// The log of a site, whose entries from this one on are applied to areas. None where the site failed, or they can't
+/// be.
 fn applied_log(
     alloc: Global,
     areas: &mut Areas,
@@ -176,8 +178,8 @@ fn applied_log(
     }
 }
 
-/// The log of a site and the areas, to which its entries from this one on are applied. None where the site failed, or they
-/// can't be.
+/// The log of a site and the areas, to which its entries from this one on are applied. None where the site failed, or
+/// they can't be.
 fn open_both(
     alloc: Global,
     defs: &Defs,
@@ -196,8 +198,50 @@ fn open_both(
     }
 }
 
-/// The log and the areas of a site, with the entries of the log from this one on applied. None where the site failed, or
-/// they can't be.
+/// Puts a value in the place of another, which is let go. By an assignment, the caller would be proved over every part
+/// of the old value.
+fn replace<T: Drop>(place: &mut T, value: T)
+    ensures { place.new ≡ value }
+{
+    *place = value;
+}
+
+/// Lets a value go, and hands on what was said of it. Of a value with many parts, a function that lets it go itself is
+/// dear to prove.
+pub(crate) fn let_go<T: Drop, U>(_value: T, said: U) -> U
+    ensures { result ≡ said }
+{
+    said
+}
+
+/// The bench of a log and areas over a site.
+fn bench_of(
+    alloc: Global,
+    defs: Defs,
+    both: (Log, Areas),
+    site: MemorySite,
+    bound: u32,
+    checked: u64,
+) -> Bench
+    ensures defs { result.defs ≡ defs }
+    ensures places { result.areas.places ≡ both.1.places }
+{
+    let (log, areas) = both;
+    let mark = log.sealed();
+    Bench {
+        alloc,
+        defs,
+        areas,
+        log,
+        site,
+        bound,
+        mark,
+        checked,
+    }
+}
+
+/// The log and the areas of a site, with the entries of the log from this one on applied. None where the site failed,
+/// or they can't be.
 fn opened(
     alloc: Global,
     defs: Defs,
@@ -209,21 +253,10 @@ fn opened(
     requires bound { 1 ≤ bound }
     ensures { IfOk result (λ found. IfSome found (λ bench. HasBank bench.defs bench.areas.places)) }
 {
-    match open_both(alloc, &defs, &mut site, bound, checked)? {
-        Some((log, areas)) => {
-            let mark = log.sealed();
-            Ok(Some(Bench {
-                alloc,
-                defs,
-                areas,
-                log,
-                site,
-                bound,
-                mark,
-                checked,
-            }))
-        }
-        None => Ok(None),
+    match open_both(alloc, &defs, &mut site, bound, checked) {
+        Ok(Some(both)) => Ok(Some(bench_of(alloc, defs, both, site, bound, checked))),
+        Ok(None) => let_go((defs, site), Ok(None)),
+        Err(fault) => let_go((defs, site), Err(fault.into())),
     }
 }
 
@@ -256,9 +289,10 @@ fn opened_over(
     requires { 1 ≤ bound }
     ensures { IfOk result (λ found. IfSome found (λ bench. HasBank bench.defs bench.areas.places)) }
 {
-    match read_bank(alloc)? {
-        Some(defs) => opened(alloc, defs, site, bound, checked),
-        None => Ok(None),
+    match read_bank(alloc) {
+        Ok(Some(defs)) => opened(alloc, defs, site, bound, checked),
+        Ok(None) => let_go(site, Ok(None)),
+        Err(fault) => let_go(site, Err(fault)),
     }
 }
 
@@ -272,10 +306,10 @@ impl Bench {
         requires { 1 ≤ bound }
         ensures { IfOk result (λ found. IfSome found (λ bench. HasBank bench.defs bench.areas.places)) }
     {
-        if format_site(alloc, &mut site)? {
-            opened_over(alloc, site, bound, 0)
-        } else {
-            Ok(None)
+        match format_site(alloc, &mut site) {
+            Ok(true) => opened_over(alloc, site, bound, 0),
+            Ok(false) => let_go(site, Ok(None)),
+            Err(fault) => let_go(site, Err(fault)),
         }
     }
 
@@ -389,6 +423,19 @@ impl Bench {
         }
     }
 
+    /// An entry stands, and what is staged is published.
+    fn append(&mut self, entry: &Entry, ended: Ended) -> Result<Ended, AllocError>
+        requires flagged { AreFlagged self.old.areas.imaged entry.now.items }
+        requires rules { KeepsRules entry.now }
+        requires fits { FitsEntry entry.now }
+        requires bank { HasBank self.old.defs self.old.areas.places }
+        ensures { HasBank self.new.defs self.new.areas.places }
+    {
+        let place = self.log.append(entry)?;
+        self.areas.publish(&entry.items, place);
+        Ok(ended)
+    }
+
     /// An entry of these items stands, and what is staged is published.
     fn enter(&mut self, items: List<Item>, came: &Came) -> Result<Ended, AllocError>
         requires flagged { AreFlagged self.old.areas.imaged items }
@@ -401,9 +448,7 @@ impl Bench {
         }
         let ended = well_if(are_wanted(items.as_slice(), came));
         let entry = entry_of(self.alloc, items);
-        let place = self.log.append(&entry)?;
-        self.areas.publish(&entry.items, place);
-        Ok(ended)
+        self.append(&entry, ended)
     }
 
     /// A Purge: staged, published, and an entry stands.
@@ -441,12 +486,20 @@ impl Bench {
             Step::Write => Ok(self.write()),
             Step::WriteAll => Ok(self.write_all()),
             Step::Restart => self.restart(),
-            Step::Shows(anchor, wanted) => match self.shown(*anchor)? {
-                Some(text) => Ok(well_if(text.as_slice() == *wanted)),
-                None => Ok(Ended::Failed),
-            },
+            Step::Shows(anchor, wanted) => Ok(self.shows(*anchor, wanted)?),
             Step::Ends(set, begin, end) => Ok(self.has_ends(*set, *begin, *end)),
             Step::Length(set, length) => Ok(well_if(self.site.contents(*set).len() == *length)),
+        }
+    }
+
+    /// An anchor shows this.
+    fn shows(&mut self, anchor: u32, wanted: &[u8]) -> Result<Ended, AllocError>
+        requires { HasBank self.old.defs self.old.areas.places }
+        ensures { HasBank self.new.defs self.new.areas.places }
+    {
+        match self.shown(anchor)? {
+            Some(text) => Ok(well_if(text.as_slice() == wanted)),
+            None => Ok(Ended::Failed),
         }
     }
 
@@ -546,7 +599,7 @@ impl Bench {
     {
         match self.restarted_from(1)? {
             Some(bench) => {
-                *self = bench;
+                replace(self, bench);
                 Ok(Ended::Well)
             }
             None => Ok(Ended::Otherwise),

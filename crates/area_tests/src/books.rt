@@ -1,4 +1,5 @@
-//! Areas over sites in memory whose bytes were written by hand: what anchors give through the pool, and which damage they name.
+//! Areas over sites in memory whose bytes were written by hand: what anchors give through the pool, and which damage
+//! they name.
 
 ghost use Rattle.fp_model.specs.WellFormed.{AreDefs};
 
@@ -72,8 +73,8 @@ fn write(site: &mut MemorySite, patches: &[Patch]) -> bool {
     true
 }
 
-/// The areas of definitions over a site on which they are formatted, and then these bytes are written. None where a call
-/// fails.
+/// The areas of definitions over a site on which they are formatted, and then these bytes are written. None where a
+/// call fails.
 fn formatted(
     alloc: Global,
     defs: &Defs,

@@ -8,7 +8,7 @@ use crate::bench::Named::{Image, Range};
 use crate::bench::Step::{
     Commit, Drops, Ends, Length, Mark, Purge, Restart, Seal, Shows, Write, WriteAll,
 };
-use crate::bench::{Bench, Came, Ended, Step};
+use crate::bench::{Bench, Came, Ended, Step, let_go};
 use crate::changes::Change::{Add, Drop, Note, Rename};
 use memory_site::MemorySite;
 use std::alloc::Global;
@@ -32,8 +32,8 @@ fn first_unwell(
     Ok((None, bytes))
 }
 
-/// Runs steps over areas that are formatted over a site. The first that didn't end well, or how many there are where the site
-/// failed before; and what the site has of both areas.
+/// Runs steps over areas that are formatted over a site. The first that didn't end well, or how many there are where
+/// the site failed before; and what the site has of both areas.
 fn first_other(
     alloc: Global,
     site: MemorySite,
@@ -43,7 +43,10 @@ fn first_other(
     requires { 1 ≤ bound }
 {
     match Bench::formatted(alloc, site, bound)? {
-        Some(mut bench) => first_unwell(alloc, &mut bench, steps),
+        Some(mut bench) => {
+            let found = first_unwell(alloc, &mut bench, steps);
+            let_go(bench, found)
+        }
         None => Ok((Some(steps.len()), Vec::new(alloc))),
     }
 }
@@ -56,8 +59,9 @@ fn over_new(alloc: Global, bound: u32, steps: &[Step]) -> Result<(Option<usize>,
     first_other(alloc, site, bound, steps)
 }
 
-/// Twenty-one customers of one anchor, of which ten fit into its base interval, and ten into its unit's overflow interval.
-/// The last one takes an interval that is new in the area, and the area had eight. Nothing is written before a restart.
+/// Twenty-one customers of one anchor, of which ten fit into its base interval, and ten into its unit's overflow
+/// interval. The last one takes an interval that is new in the area, and the area had eight. Nothing is written before
+/// a restart.
 static CUSTOMERS: [Step; 30] = [
     Commit(&[Add(6, b"C001", b"A")], Items(&[Image(4, 4)])),
     Commit(&[Add(6, b"C009", b"B")], Came::Some),
@@ -150,9 +154,9 @@ static MIXED: [Step; 12] = [
     WriteAll,
 ];
 
-/// A name that changes behind a restart: first an image of the interval, then the two bytes in which the names differ. The
-/// segment stands at place 64: the element at 32, with 4 bytes of its own, two pointers and a serial before it. Behind a
-/// mark there is an image again.
+/// A name that changes behind a restart: first an image of the interval, then the two bytes in which the names differ.
+/// The segment stands at place 64: the element at 32, with 4 bytes of its own, two pointers and a serial before it.
+/// Behind a mark there is an image again.
 static IN_PLACE: [Step; 13] = [
     Commit(&[Add(6, b"C001", b"ANN")], Items(&[Image(4, 4)])),
     Seal,
@@ -178,13 +182,30 @@ static IN_PLACE: [Step; 13] = [
 /// How many rows of steps there are.
 const ROWS: usize = 4;
 
+/// The rows of steps, each named in a function of its own.
+fn customers() -> &'static [Step; 30] {
+    &CUSTOMERS
+}
+
+fn notes() -> &'static [Step] {
+    &NOTES
+}
+
+fn mixed() -> &'static [Step] {
+    &MIXED
+}
+
+fn in_place() -> &'static [Step] {
+    &IN_PLACE
+}
+
 /// The steps of a row.
 fn row_of(row: usize) -> &'static [Step] {
     match row {
-        0 => &CUSTOMERS[..],
-        1 => &NOTES[..],
-        2 => &MIXED[..],
-        _ => &IN_PLACE[..],
+        0 => &customers()[..],
+        1 => notes(),
+        2 => mixed(),
+        _ => in_place(),
     }
 }
 
@@ -222,20 +243,28 @@ fn a_pool_of_one_makes_the_same_bytes(rt: HostRuntime) -> Result<(), Fail> {
 /// The place of the commit in which the area grows.
 const GROWTH: usize = 21;
 
-/// It asks whether the data set may grow, and nothing else: all that it reads is at hand. So there is just one number of
-/// calls behind which the site stops in it.
+/// The steps as far as that one.
+fn up_to_growth() -> &'static [Step] {
+    &customers()[..GROWTH + 1]
+}
+
+/// The first step that doesn't end well where the site stops behind so many calls.
+fn stopped_behind(alloc: Global, calls: u64) -> Result<Option<usize>, Fail> {
+    let site = MemorySite::stopping(alloc, calls)?;
+    let (step, _) = first_other(alloc, site, 10, up_to_growth())?;
+    Ok(step)
+}
+
+/// It asks whether the data set may grow, and nothing else: all that it reads is at hand. So there is just one number
+/// of calls behind which the site stops in it.
 #[test]
 fn a_commit_in_which_an_area_grows_asks_the_site_once(rt: HostRuntime) -> Result<(), Fail> {
     let mut stopped = 0u64;
     for calls in 0..100u64 {
-        let site = MemorySite::stopping(rt.alloc(), calls)?;
-        match first_other(rt.alloc(), site, 10, &CUSTOMERS[..GROWTH + 1])? {
-            (Some(step), _) => {
-                if step == GROWTH {
-                    stopped = stopped.saturating_add(1);
-                }
-            }
-            (None, _) => {
+        match stopped_behind(rt.alloc(), calls)? {
+            Some(step) if step == GROWTH => stopped = stopped.saturating_add(1),
+            Some(_) => {}
+            None => {
                 assert!(rt; stopped == 1, "stopped {stopped} times");
                 return Ok(());
             }

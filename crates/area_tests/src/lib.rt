@@ -1,5 +1,5 @@
-//! Tests of what stands under areas: intervals and the room in them, anchors, sequential parts, states, the pool, and areas
-//! over sites from one commit to the next.
+//! Tests of what stands under areas: intervals and the room in them, anchors, sequential parts, states, the pool, and
+//! areas over sites from one commit to the next.
 //!
 //! They stand here and not in the crates that they test, since a crate with tests is proved twice. Which bytes are an
 //! interval is data of a program above.

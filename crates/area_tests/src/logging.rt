@@ -80,8 +80,8 @@ fn apply(areas: &mut Areas, defs: &Defs, items: &List<Item>, place: u64) -> Resu
 /// No log of the tests has so many entries.
 const MANY: u64 = 1 << 20;
 
-/// Applies the entries of a group, of which the first is the one at a place, without those before `from`. How many entries
-/// there are behind it; None where items can't be applied.
+/// Applies the entries of a group, of which the first is the one at a place, without those before `from`. How many
+/// entries there are behind it; None where items can't be applied.
 fn apply_group(
     areas: &mut Areas,
     defs: &Defs,
@@ -116,8 +116,8 @@ fn end_log(log: &mut Log, gate: u64, count: u64) -> bool
     true
 }
 
-/// Applies the entries of a log from this one on, and tells the log where it ends. False where the site failed, where the
-/// log is damaged, or where items can't be applied.
+/// Applies the entries of a log from this one on, and tells the log where it ends. False where the site failed, where
+/// the log is damaged, or where items can't be applied.
 pub(crate) fn apply_log(
     areas: &mut Areas,
     defs: &Defs,

@@ -1,7 +1,7 @@
 //! Room in a unit of work and elements that are given back: where they stand, and how many intervals each call gets.
 //!
-//! An interval of 512 bytes has 480 behind its head, and an element of n bytes takes n + 4: four of 100 bytes, at 32, 136,
-//! 240 and 344, then 64 bytes are left; two of 200, at 32 and 236; or one of 400.
+//! An interval of 512 bytes has 480 behind its head, and an element of n bytes takes n + 4: four of 100 bytes, at 32,
+//! 136, 240 and 344, then 64 bytes are left; two of 200, at 32 and 236; or one of 400.
 ghost use Rattle.std.specs.Prelude.{◌≡◌};
 
 use crate::memory::{MemoryArea, control};
@@ -146,8 +146,8 @@ const LAST_EMPTIED: &[Step] = &[
 ];
 
 /// The base interval is got for each element. Of the dependent overflow interval and the list only the first with room
-/// is got besides, and what becomes full once. Where an interval joins, control, that one and the base interval are got.
-/// For another length all are tried anew.
+/// is got besides, and what becomes full once. Where an interval joins, control, that one and the base interval are
+/// got. For another length all are tried anew.
 const TAKEN: &[Step] = &[
     RoomSeen(100, 1, 32, 1),
     RoomSeen(100, 1, 136, 1),
@@ -197,8 +197,8 @@ const FULL_SEEN: &[Step] = &[
     Control(3, 0),
 ];
 
-/// The last of the list becomes empty first: the list is gone over once. For each interval that becomes empty it is got,
-/// the base interval, the one whose link led to it, and control.
+/// The last of the list becomes empty first: the list is gone over once. For each interval that becomes empty it is
+/// got, the base interval, the one whose link led to it, and control.
 const LAST_FIRST: &[Step] = &[
     BackSeen(3, 32, 5),
     Independent(3, 0, 0),
@@ -241,8 +241,8 @@ const MIDDLE_FIRST: &[Step] = &[
     BackSeen(1, 32, 1),
 ];
 
-/// The links of an area at first: the base interval's link, the first of the free chain, and of each independent overflow
-/// interval its link, its owner and how many bytes an element has there, 0 for none.
+/// The links of an area at first: the base interval's link, the first of the free chain, and of each independent
+/// overflow interval its link, its owner and how many bytes an element has there, 0 for none.
 struct Links(u64, u64, &'static [(u64, u64, u16)]);
 
 /// One independent overflow interval, in the list, or in the free chain.
@@ -266,6 +266,11 @@ static RUNS: [(Links, [&[Step]; 2]); 10] = [
     (NONE, [FULL_SEEN, FIRST_FIRST]),
     (NONE, [FULL_SEEN, MIDDLE_FIRST]),
 ];
+
+/// The runs.
+fn runs() -> &'static [(Links, [&'static [Step]; 2])] {
+    &RUNS
+}
 
 /// One unit of work of one base and one dependent overflow interval, and no sequential ones.
 fn shape() -> Shape
@@ -362,6 +367,14 @@ impl Run {
         true
     }
 
+    /// Whether an interval has this link.
+    fn has_link(&self, ci: u64, link: u64) -> bool {
+        match self.area.head_at(ci) {
+            Some(head) => head.link == link,
+            None => false,
+        }
+    }
+
     /// Whether a step answers so.
     fn answers(&mut self, step: &Step) -> bool {
         match step {
@@ -379,7 +392,7 @@ impl Run {
                 is_damaged(give_back(&mut self.area, &shape(), *ci, *at), *damaged)
             }
             IsUsed(ci, at, used) => self.area.is_used(*ci, *at) == *used,
-            Link(ci, link) => self.area.head_at(*ci).map(|head| head.link) == Some(*link),
+            Link(ci, link) => self.has_link(*ci, *link),
             Independent(ci, link, owner) => {
                 self.area.head_at(*ci) == Some(head(5, *link, *owner))
             }
@@ -397,10 +410,21 @@ impl Run {
         }
         None
     }
+
+    /// The place, in its part, of the first step of all that answers something else.
+    fn first_wrong_of(&mut self, parts: &[&[Step]; 2]) -> Option<usize> {
+        match self.first_wrong(parts[0]) {
+            Some(place) => Some(place),
+            None => self.first_wrong(parts[1]),
+        }
+    }
 }
 
-/// The number of no step.
-const NO_STEP: usize = 1000;
+/// So it is in an area with these links.
+fn wrong_step(alloc: Global, links: &Links, parts: &[&[Step]; 2]) -> Result<Option<usize>, Fail> {
+    let mut run = Run::begin(alloc, links)?;
+    Ok(run.first_wrong_of(parts))
+}
 
 /// Whether a call names this interval.
 fn is_damaged<T: Drop>(answer: Result<T, SpaceFault>, ci: u64) -> bool {
@@ -412,12 +436,13 @@ fn is_damaged<T: Drop>(answer: Result<T, SpaceFault>, ci: u64) -> bool {
 
 #[test]
 fn elements_come_and_go_where_they_are_to(rt: HostRuntime) -> Result<(), Fail> {
-    for (number, (links, parts)) in RUNS.iter().enumerate() {
-        let mut run = Run::begin(rt.alloc(), links)?;
-        for steps in parts {
-            let wrong = run.first_wrong(steps).unwrap_or(NO_STEP);
-            assert!(rt; wrong == NO_STEP, "run {number}, step {wrong}");
-        }
+    for (number, (links, parts)) in runs().iter().enumerate() {
+        let wrong = wrong_step(rt.alloc(), links, parts)?;
+        assert!(rt;
+            wrong.is_none(),
+            "run {number}, step {}",
+            wrong.unwrap_or(0)
+        );
     }
     Ok(())
 }
@@ -447,8 +472,8 @@ fn damage_is_found(rt: HostRuntime) -> Result<(), Fail> {
     Ok(())
 }
 
-/// Links, and the interval that is damaged where 4 leaves its list, in which the only element is given back: a circle, a
-/// list that doesn't hold it, a link outside the area, one to no independent overflow interval, and another owner.
+/// Links, and the interval that is damaged where 4 leaves its list, in which the only element is given back: a circle,
+/// a list that doesn't hold it, a link outside the area, one to no independent overflow interval, and another owner.
 static BROKEN_FOR_FOUR: [(Links, u64); 5] = [
     (Links(3, 0, &[(3, 1, 0), (0, 1, 400)]), 3),
     (Links(3, 0, &[(0, 1, 0), (0, 1, 400)]), 4),
@@ -467,8 +492,8 @@ fn damage_is_found_where_an_interval_leaves_its_list(rt: HostRuntime) -> Result<
     Ok(())
 }
 
-/// How many elements of 100 bytes are taken, how many intervals are got for all of them, and how many where they are given
-/// back in the same order.
+/// How many elements of 100 bytes are taken, how many intervals are got for all of them, and how many where they are
+/// given back in the same order.
 ///
 /// 400 elements: 4 gets in the base interval, 8 in the dependent overflow interval, and 5 + 2 + 2 + 2 in each of the 98
 /// of the list. Given back: 1 for each element, 2 more for each interval that becomes empty, 97 for the way to the last
@@ -476,17 +501,16 @@ fn damage_is_found_where_an_interval_leaves_its_list(rt: HostRuntime) -> Result<
 static LONG: [(usize, u64, u64); 2] = [(400, 1090, 789), (1600, 4390, 3189)];
 
 /// Takes so many elements, and answers how many intervals were got.
-fn take_all(run: &mut Run, places: &mut Vec<(u64, u16)>, count: usize) -> Result<u64, Fail> {
+fn take_all(run: &mut Run, places: &mut Vec<(u64, u16)>, count: usize) -> u64 {
     let mut all = 0u64;
     for _ in 0..count {
         let (found, got) = run.take(100);
-        let Ok(place) = found else {
-            return Ok(0);
-        };
-        places.push(place)?;
-        all = all.saturating_add(got);
+        match found {
+            Ok(place) if places.push(place).is_ok() => all = all.saturating_add(got),
+            _ => return 0,
+        }
     }
-    Ok(all)
+    all
 }
 
 /// Gives all elements back, and answers how many intervals were got.
@@ -502,13 +526,18 @@ fn give_all(run: &mut Run, places: &[(u64, u16)]) -> u64 {
     all
 }
 
+/// How many intervals are got where so many elements are taken, and where they are given back.
+fn gets_of(alloc: Global, count: usize) -> Result<(u64, u64), Fail> {
+    let mut run = Run::begin(alloc, &NONE)?;
+    let mut places = Vec::new(alloc);
+    let taken = take_all(&mut run, &mut places, count);
+    Ok((taken, give_all(&mut run, places.as_slice())))
+}
+
 #[test]
 fn a_long_list_costs_what_stands_in_it(rt: HostRuntime) -> Result<(), Fail> {
     for (count, taken, given) in &LONG {
-        let mut run = Run::begin(rt.alloc(), &NONE)?;
-        let mut places = Vec::new(rt.alloc());
-        assert!(rt; take_all(&mut run, &mut places, *count)? == *taken);
-        assert!(rt; give_all(&mut run, places.as_slice()) == *given);
+        assert!(rt; gets_of(rt.alloc(), *count)? == (*taken, *given));
     }
     Ok(())
 }

@@ -53,8 +53,8 @@ fn clients(alloc: Global, second: u64) -> Result<List<Root>, AllocError>
     Ok(roots)
 }
 
-/// The number of a root, the place of its element in the first base interval, 0 for none, and its newest serial. An element
-/// has 36 bytes: the last root stands first.
+/// The number of a root, the place of its element in the first base interval, 0 for none, and its newest serial. An
+/// element has 36 bytes: the last root stands first.
 static PLACES: [(usize, u16, u64); 4] = [(0, 104, 5), (1, 68, 6), (2, 32, 7), (3, 0, 0)];
 
 /// Whether the root of a number stands there.

@@ -1,5 +1,5 @@
-//! The pool of intervals over a site in memory: steps and what each answers, by several bounds and with each call of the site
-//! failing alone.
+//! The pool of intervals over a site in memory: steps and what each answers, by several bounds and with each call of
+//! the site failing alone.
 //!
 //! An interval has 512 bytes, all of them one number. At the start interval i of data set 4 has 40 + i, for i up to 7,
 //! and interval i of data set 5 has 50 + i, for i up to 2.
@@ -156,19 +156,40 @@ fn take_twice(alloc: Global, pool: &mut Pool, site: &mut MemorySite, step: &Step
     matches!(answer, Ok(true))
 }
 
-/// Takes all steps with a pool of this bound, each that fails twice. How many failed, where the others answered as
+/// The steps.
+fn steps() -> &'static [Step] {
+    &STEPS
+}
+
+/// Takes all steps, each that fails twice. Whether they answer as they say.
+fn take_all(alloc: Global, pool: &mut Pool, site: &mut MemorySite) -> bool {
+    for step in steps() {
+        if !take_twice(alloc, pool, site, step) {
+            return false;
+        }
+    }
+    true
+}
+
+/// Takes all steps with a pool of this bound, over this site. How many of its calls failed, where the steps answered as
 /// they say.
-fn faults_of(alloc: Global, bound: u32, failing: &[u64]) -> Result<Option<u64>, AllocError>
+fn faults_over(alloc: Global, site: &mut MemorySite, bound: u32) -> Result<Option<u64>, AllocError>
     requires { 1 ≤ bound }
 {
     let mut pool = Pool::new(alloc, bound)?;
-    let mut site = site_of(alloc, failing)?;
-    for step in &STEPS {
-        if !take_twice(alloc, &mut pool, &mut site, step) {
-            return Ok(None);
-        }
+    if take_all(alloc, &mut pool, site) {
+        Ok(Some(site.faults()))
+    } else {
+        Ok(None)
     }
-    Ok(Some(site.faults()))
+}
+
+/// So it is over a site whose calls with these numbers fail.
+fn faults_of(alloc: Global, bound: u32, failing: &[u64]) -> Result<Option<u64>, AllocError>
+    requires { 1 ≤ bound }
+{
+    let mut site = site_of(alloc, failing)?;
+    faults_over(alloc, &mut site, bound)
 }
 
 /// Bounds, and how many calls the site gets. With the bound 1 an interval is read again after another one; else only

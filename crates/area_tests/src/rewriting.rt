@@ -1,5 +1,5 @@
-//! Roots that are stored whole, changed in place and with one segment more; and which interval is named where the overflow
-//! list of a unit of work is broken.
+//! Roots that are stored whole, changed in place and with one segment more; and which interval is named where the
+//! overflow list of a unit of work is broken.
 ghost use Rattle.std.specs.Prelude.{◌≡◌, ◌<◌, List as ListOf, true};
 ghost use Rattle.fp_model.specs.declared.definitions.SegDef.{SegDef as SegDefOf};
 ghost use Rattle.area_tests.specs.Types.{AreFamilyTypes};
@@ -25,8 +25,8 @@ fn area(rt: &HostRuntime, seq_cis: u32) -> Result<MemoryArea, Fail> {
 
 // ---- rows that become longer and shorter
 
-/// An anchor and its parents, step by step: rows become longer and shorter, a parent changes its name and another its key,
-/// and two anchors of one unit of work share its overflow.
+/// An anchor and its parents, step by step: rows become longer and shorter, a parent changes its name and another its
+/// key, and two anchors of one unit of work share its overflow.
 static STEPS: [(u32, &[Row; 3]); 6] = [
     (
         2,
@@ -135,16 +135,16 @@ fn rows_of_two_types_and_levels_are_kept(rt: HostRuntime) -> Result<(), Fail> {
     Ok(())
 }
 
-/// A parent, and how often intervals are got and put when it is stored. It has three times as many addresses as its first
-/// loan has payments. A parent has 48 bytes, each loan 32, a payment 20, an address 24: in all 224, which the base interval
-/// holds, and 592, of which the dependent overflow holds a part.
+/// A parent, and how often intervals are got and put when it is stored. It has three times as many addresses as its
+/// first loan has payments. A parent has 48 bytes, each loan 32, a payment 20, an address 24: in all 224, which the
+/// base interval holds, and 592, of which the dependent overflow holds a part.
 static COUNTS: [(Row, (u64, u64)); 2] = [
     ((1, b'A', &[1, 1], 3), (1, 1)),
     ((1, b'A', &[5, 1], 15), (2, 2)),
 ];
 
-/// How often intervals are got and put when a parent is stored in a new area, and got when it is read again. None where a call
-/// fails.
+/// How often intervals are got and put when a parent is stored in a new area, and got when it is read again. None where
+/// a call fails.
 fn calls_of_one(rt: &HostRuntime, one: Row) -> Result<Option<((u64, u64), u64)>, Fail> {
     let mut area = area(rt, 1)?;
     let list = [of_row(one)];
@@ -210,8 +210,8 @@ fn calls_of(
     calls_between(rt.alloc(), &mut area, &shape, &before, &after)
 }
 
-/// Three parents with two loans of two payments and two addresses, of whom the first says this, and of the first and the
-/// third these are changed.
+/// Three parents with two loans of two payments and two addresses, of whom the first says this, and of the first and
+/// the third these are changed.
 fn three(says: u8, first: Keys, third: Keys) -> [Parent; 3] {
     [
         Parent {
@@ -228,8 +228,8 @@ fn three(says: u8, first: Keys, third: Keys) -> [Parent; 3] {
 
 /// What the first parent says, what is changed below it and below the third, and how many intervals are got and put. A
 /// family has 240 bytes of elements: a parent 48, a loan 32, a payment 20, an address 24. The last two fill the base
-/// interval, and the first stands in the dependent overflow. So two segments that change stand in two intervals, and one
-/// alone in one. The base interval is got for its root anchor point, and the other for the first parent, from which
+/// interval, and the first stands in the dependent overflow. So two segments that change stand in two intervals, and
+/// one alone in one. The base interval is got for its root anchor point, and the other for the first parent, from which
 /// pointers lead on.
 static CHANGES: [(u8, Keys, Keys, (u64, u64)); 6] = [
     (b'X', NO_KEYS, NO_KEYS, (2, 1)),
@@ -293,13 +293,18 @@ static GAINS: [(&[u8], u8, Keys, (u64, u64)); 14] = [
     (MANY, NONE, Keys(NONE, NONE, 1), (4, 3)),
 ];
 
+/// The rows.
+fn gains() -> &'static [(&'static [u8], u8, Keys, (u64, u64))] {
+    &GAINS
+}
+
 /// Sequential intervals in an area of 11 intervals, and in one of 1,001.
 static AREAS: [u32; 2] = [4, 994];
 
 #[test]
 fn a_segment_more_is_put_with_one_pointer(rt: HostRuntime) -> Result<(), Fail> {
     for seq_cis in &AREAS {
-        for (row, (loans, gone, missing, calls)) in GAINS.iter().enumerate() {
+        for (row, (loans, gone, missing, calls)) in gains().iter().enumerate() {
             let before = four(loans, *missing);
             let after = four(loans, NO_KEYS);
             let gone = (*gone, gone.saturating_add(1));
@@ -365,10 +370,10 @@ fn is_named(rt: &HostRuntime, gone: (u8, u8), ci: u64) -> Result<bool, Fail> {
 
 /// The parents that go, and the interval that is named.
 ///
-/// An element of a parent has 48 bytes, so ten fill an interval. Room is taken for the last parent first: 50 to 59 stand
-/// in the base interval, 40 to 49 in the dependent overflow, 30 to 39 in interval 7, 20 to 29 in 8, 10 to 19 in 9. The
-/// list is 9, 8, 7, and the link of 7 is bad. One parent more needs room, and the walk comes to the bad link: it stands
-/// in 7, or where that became empty in 8, which leads to where 7 led. In the area before 8 is good.
+/// An element of a parent has 48 bytes, so ten fill an interval. Room is taken for the last parent first: 50 to 59
+/// stand in the base interval, 40 to 49 in the dependent overflow, 30 to 39 in interval 7, 20 to 29 in 8, 10 to 19 in
+/// 9. The list is 9, 8, 7, and the link of 7 is bad. One parent more needs room, and the walk comes to the bad link: it
+/// stands in 7, or where that became empty in 8, which leads to where 7 led. In the area before 8 is good.
 static NAMED: [((u8, u8), u64); 4] = [(NOBODY, 7), ((10, 20), 7), ((20, 30), 7), ((30, 40), 8)];
 
 #[test]

@@ -1,5 +1,5 @@
-//! The states of an area: changed anchors and notes are put into it, a Purge moves its begin, and what it stands for is read
-//! back; and what comes of it where it can't be read any more.
+//! The states of an area: changed anchors and notes are put into it, a Purge moves its begin, and what it stands for is
+//! read back; and what comes of it where it can't be read any more.
 ghost use Rattle.area_tests.specs.Bank.{IsLonePlace};
 ghost use Rattle.std.specs.Prelude.{◌≡◌, IfOk};
 
@@ -321,16 +321,33 @@ fn comes(
     }
 }
 
+/// The steps.
+fn a_year() -> &'static [Step] {
+    &A_YEAR
+}
+
+/// The first step that comes to something else.
+fn first_wrong(
+    alloc: Global,
+    area: &mut MemoryArea,
+    place: &Place,
+) -> Result<Option<usize>, AllocError>
+    requires { IsLonePlace place.now }
+{
+    for (number, step) in a_year().iter().enumerate() {
+        if !comes(alloc, area, place, step)? {
+            return Ok(Some(number));
+        }
+    }
+    Ok(None)
+}
+
 #[test]
 fn an_area_stands_for_what_was_put_into_it(rt: HostRuntime) -> Result<(), Fail> {
     let place = place(rt.alloc())?;
     let mut area = formatted(&rt, [1, 1, 0, 0], 1, 4)?;
-    for (number, step) in A_YEAR.iter().enumerate() {
-        assert!(rt;
-            comes(rt.alloc(), &mut area, &place, step)?,
-            "step {number}"
-        );
-    }
+    let wrong = first_wrong(rt.alloc(), &mut area, &place)?;
+    assert!(rt; wrong.is_none(), "step {}", wrong.unwrap_or(0));
     Ok(())
 }
 
@@ -371,10 +388,10 @@ fn appends_after(rt: &HostRuntime, place: &Place, count: u64, puts: bool) -> Res
     }
 }
 
-/// How many intervals are read. To store a customer: the base interval of its anchor, control, and the base interval as it
-/// changes. To put notes: control; and for each the base interval of the customer's anchor; control and the interval of
-/// the slot; and to set its serial the base interval four times, for the anchor, for the root's place, for what the root
-/// says and as it changes.
+/// How many intervals are read. To store a customer: the base interval of its anchor, control, and the base interval as
+/// it changes. To put notes: control; and for each the base interval of the customer's anchor; control and the interval
+/// of the slot; and to set its serial the base interval four times, for the anchor, for the root's place, for what the
+/// root says and as it changes.
 #[test]
 fn a_read_that_fails_is_told(rt: HostRuntime) -> Result<(), Fail> {
     let place = place(rt.alloc())?;

@@ -3,17 +3,18 @@
 ghost use Rattle.area_tests.specs.Bank.{HasBank};
 
 use crate::bench::Step::{Commit, Mark, Owes, Purge, Seal, Shows, Sync, Write, WriteAll};
-use crate::bench::{Bench, Came, Ended, Step};
+use crate::bench::{Bench, Came, Ended, Step, let_go};
 use crate::changes::Change::{Add, Note, Rename};
 use ci_pool::Owed;
 use memory_site::MemorySite;
 use std::alloc::Global;
 use std::test::Fail;
 
-/// Commits in both areas, seals and writes between them, a checkpoint in steps with a commit between these, and a Purge.
+/// Commits in both areas, seals and writes between them, a checkpoint in steps with a commit between these, and a
+/// Purge.
 ///
-/// At the mark four intervals owe changes of the four entries: the anchors' base intervals, and of the second area control
-/// and the interval of the notes. The commit changes one of them again, so that it waits for a seal.
+/// At the mark four intervals owe changes of the four entries: the anchors' base intervals, and of the second area
+/// control and the interval of the notes. The commit changes one of them again, so that it waits for a seal.
 static STEPS: [Step; 25] = [
     Commit(
         &[Add(6, b"C001", b"ANN"), Add(0, b"C003", b"BOB")],
@@ -60,6 +61,11 @@ static STATES: [(&[u8], &[u8]); 8] = [
     (b"C001EVA N2;", b"C003BOB;"),
 ];
 
+/// The steps.
+fn steps() -> &'static [Step] {
+    &STEPS
+}
+
 /// Whether an anchor shows this. False where the site failed.
 fn shows(bench: &mut Bench, anchor: u32, wanted: &[u8]) -> Result<bool, Fail>
     requires { HasBank bench.old.defs bench.old.areas.places }
@@ -84,8 +90,8 @@ fn shows_its_state(bench: &mut Bench) -> Result<bool, Fail>
     Ok(shows(bench, 6, sixth)? && shows(bench, 0, first)?)
 }
 
-/// Whether a restart found the sealed entries, or all of them where a seal was cut short, and shows the databases behind
-/// those that it found.
+/// Whether a restart found the sealed entries, or all of them where a seal was cut short, and shows the databases
+/// behind those that it found.
 fn stands(bench: &Bench, again: &mut Bench) -> Result<bool, Fail>
     requires { HasBank again.old.defs again.old.areas.places }
 {
@@ -97,13 +103,16 @@ fn stands(bench: &Bench, again: &mut Bench) -> Result<bool, Fail>
 /// Whether a restart from this snapshot of the site stands.
 fn restarts_from(bench: &Bench, choice: u64) -> Result<bool, Fail> {
     match bench.restarted_from(choice)? {
-        Some(mut again) => stands(bench, &mut again),
+        Some(mut again) => {
+            let is_so = stands(bench, &mut again);
+            let_go(again, is_so)
+        }
         None => Ok(false),
     }
 }
 
-/// Whether a restart from each snapshot of the site finds the sealed entries, or all of them where a seal was cut short,
-/// and shows the databases behind those that it finds.
+/// Whether a restart from each snapshot of the site finds the sealed entries, or all of them where a seal was cut
+/// short, and shows the databases behind those that it finds.
 fn restarts(bench: &Bench) -> Result<bool, Fail> {
     for choice in 0..8u64 {
         if !restarts_from(bench, choice)? {
@@ -127,7 +136,7 @@ enum Run {
 fn until_stopped(bench: &mut Bench) -> Result<Run, Fail>
     requires { HasBank bench.old.defs bench.old.areas.places }
 {
-    for (place, step) in STEPS.iter().enumerate() {
+    for (place, step) in steps().iter().enumerate() {
         match bench.step(step)? {
             Ended::Well => {}
             Ended::Failed => break,
@@ -142,7 +151,7 @@ fn restarted(bench: &Bench) -> Result<Run, Fail> {
     if restarts(bench)? {
         Ok(Run::Well(bench.site.faults()))
     } else {
-        Ok(Run::Otherwise(STEPS.len()))
+        Ok(Run::Otherwise(steps().len()))
     }
 }
 
@@ -162,7 +171,7 @@ fn step_again(bench: &mut Bench, step: &Step) -> Result<Ended, Fail>
 fn each_again(bench: &mut Bench) -> Result<Run, Fail>
     requires { HasBank bench.old.defs bench.old.areas.places }
 {
-    for (place, step) in STEPS.iter().enumerate() {
+    for (place, step) in steps().iter().enumerate() {
         match step_again(bench, step)? {
             Ended::Well => {}
             Ended::Failed if matches!(step, Seal) => return restarted(bench),
@@ -173,7 +182,7 @@ fn each_again(bench: &mut Bench) -> Result<Run, Fail>
     if shows_its_state(bench)? || shows_its_state(bench)? {
         restarted(bench)
     } else {
-        Ok(Run::Otherwise(STEPS.len()))
+        Ok(Run::Otherwise(steps().len()))
     }
 }
 
@@ -191,7 +200,10 @@ fn run_steps(bench: &mut Bench, alone: bool) -> Result<Run, Fail>
 /// Runs the steps over areas that are formatted on a site, of whose calls one fails alone, or all from one on.
 fn run_over(alloc: Global, site: MemorySite, alone: bool) -> Result<Run, Fail> {
     match Bench::formatted(alloc, site, 2)? {
-        Some(mut bench) => run_steps(&mut bench, alone),
+        Some(mut bench) => {
+            let run = run_steps(&mut bench, alone);
+            let_go(bench, run)
+        }
         None => Ok(Run::Unformatted),
     }
 }

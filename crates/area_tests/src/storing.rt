@@ -96,8 +96,8 @@ fn element(customer: &Customer, next: (u64, u16)) -> [u8; 48] {
     bytes
 }
 
-/// Whether these roots stand in the elements of three intervals, from the last root to the first: ten in interval 4, ten
-/// in 6 and the rest in 8.
+/// Whether these roots stand in the elements of three intervals, from the last root to the first: ten in interval 4,
+/// ten in 6 and the rest in 8.
 fn are_chained(area: &MemoryArea, roots: &[Customer]) -> bool {
     let mut next = (0, 0);
     let mut at: u16 = 32;
@@ -140,8 +140,8 @@ static FULL: [Standing; 4] = [
         0,
         b"\x05\0\0\0\0\0\0\0\0\0\0\0\0\0\0\0\0\0\0\0\0\0\0\0\0\0\0\0\0\0\0\x02",
     ),
-    // C001 there: 48 bytes, used, type 0; its next twin in the dependent overflow interval at 464; the newest serial 1; no
-    // first child; the segment.
+    // C001 there: 48 bytes, used, type 0; its next twin in the dependent overflow interval at 464; the newest serial 1;
+    // no first child; the segment.
     (
         8,
         32,
@@ -445,8 +445,8 @@ fn all_hold(
     Ok(true)
 }
 
-/// A store at one of eight anchors, the anchor and the change taken from a number. Whether each anchor has what its list
-/// says then.
+/// A store at one of eight anchors, the anchor and the change taken from a number. Whether each anchor has what its
+/// list says then.
 fn turn(
     rt: &HostRuntime,
     area: &mut MemoryArea,

@@ -1,5 +1,5 @@
 //! Accounts with a key of 4 characters and a packed balance of 4 bytes, and deferred calls on them.
-ghost use Rattle.fp_model.specs.FitCalls.{IsFitDeferred};
+ghost use Rattle.fp_model.specs.FitCalls.{IsFitDeferred, IsFsaList};
 ghost use Rattle.fp_model.specs.State.{key_length};
 ghost use Rattle.fp_model.specs.WellFormed.{IsMsdbDef};
 ghost use Rattle.fp_model.specs.declared.definitions.MsdbDef.{MsdbDef as DefOf};
@@ -60,6 +60,26 @@ pub(crate) fn defs(alloc: Global, dynamic: bool) -> Result<Defs, AllocError>
     })
 }
 
+/// A list of one field search argument.
+pub(crate) fn argument(
+    alloc: Global,
+    field: Name,
+    op: u8,
+    operand: &[u8],
+) -> Result<Bytes, AllocError>
+    requires { length operand.now < 65536 }
+    ensures { IfOk result IsFsaList }
+{
+    let mut fsas = List::new(alloc);
+    fsas.push(Fsa {
+        field,
+        status: b' ',
+        op,
+        operand: Bytes::from_slice(alloc, operand)?,
+    })?;
+    write_list(alloc, &fsas)
+}
+
 /// A field call with one argument on the balance.
 pub(crate) fn field_call(
     alloc: Global,
@@ -71,17 +91,10 @@ pub(crate) fn field_call(
     ensures { (defs : ListOf DefOf) → (def : DefOf) → defs ≡ def ∷ [] → key_length def.fields ≡ 4
         → IfOk result (IsFitDeferred defs) }
 {
-    let mut fsas = List::new(alloc);
-    fsas.push(Fsa {
-        field: Name(*b"BAL     "),
-        status: b' ',
-        op,
-        operand: Bytes::from_slice(alloc, operand)?,
-    })?;
     Ok(Deferred::Fld {
         msdb: 0,
         key: Bytes::from_slice(alloc, &key)?,
-        fsas: write_list(alloc, &fsas)?,
+        fsas: argument(alloc, Name(*b"BAL     "), op, operand)?,
     })
 }
 

@@ -24,8 +24,8 @@ enum Deed {
     Serials(&'static [u8], &'static [u64]),
 }
 
-/// C001 and C002 are in the first area, at anchors 2 and 3, and C007 is in the second, at 8. An area has 3 dependents at
-/// most, and the second 2.
+/// C001 and C002 are in the first area, at anchors 2 and 3, and C007 is in the second, at 8. An area has 3 dependents
+/// at most, and the second 2.
 static DEEDS: [Deed; 20] = [
     Deed::Put(b"C001"),
     Deed::Put(b"C007"),
@@ -155,11 +155,20 @@ fn first_wrong(
 fn first_wrong_anew(alloc: Global, deeds: &[Deed]) -> Result<usize, Fail> {
     let defs = defs_of(alloc, DEFINITIONS)?;
     let mut anchors = Anchors::new(alloc, &defs)?;
-    first_wrong(alloc, &mut anchors, &defs, deeds)
+    let wrong = first_wrong(alloc, &mut anchors, &defs, deeds);
+    drop(anchors);
+    drop(defs);
+    wrong
+}
+
+// The check pays for a table at each mention.
+fn deeds() -> &'static [Deed] {
+    &DEEDS
 }
 
 #[test]
 fn each_deed_comes_out(rt: HostRuntime) -> Result<(), Fail> {
-    assert!(rt; first_wrong_anew(rt.alloc(), &DEEDS)? == DEEDS.len());
+    let wrong = first_wrong_anew(rt.alloc(), deeds())?;
+    assert!(rt; wrong == deeds().len(), "step {wrong}");
     Ok(())
 }

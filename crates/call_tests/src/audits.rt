@@ -35,8 +35,8 @@ enum Ended {
 /// An entry: where it began, its notes, its line and its end.
 type Row = (u64, &'static [u64], &'static [u8], Ended);
 
-/// A log of the system. Entry 1 looks at the account as it was at the start, entry 2 as its own region saw it later. The
-/// withdrawal of entry 4 was good where it looked, and fails where it commits: 110 less 60 leaves 50.
+/// A log of the system. Entry 1 looks at the account as it was at the start, entry 2 as its own region saw it later.
+/// The withdrawal of entry 4 was good where it looked, and fails where it commits: 110 less 60 leaves 50.
 const LEGAL: &[Row] = &[
     (0, &[0], b"T1 DEPOSIT A001 10", Done(b"NEW")),
     (0, &[0], b"T2 ASK A001", Done(b"100")),
@@ -103,7 +103,8 @@ const MISNUMBERED: &[(usize, Row)] = &[
 ];
 
 /// A log of customers. Four notes fill the part of an area, a fifth has no room until two are purged, and a customer of
-/// the other area has room all the time. C009 stands behind C001 at their anchor; LISTC goes through the anchors in turn.
+/// the other area has room all the time. C009 stands behind C001 at their anchor; LISTC goes through the anchors in
+/// turn.
 const OF_CUSTOMERS: &[Row] = &[
     (0, &[], b"S1 NEWCUST C001 ANN", Done(b"ADDED")),
     (1, &[], b"T1 NOTE C001 N1", Done(b"NOTED")),
@@ -221,7 +222,9 @@ fn is_next(
     ensures { auditor.new.defs ≡ auditor.old.defs }
 {
     let entry = entry_of(alloc, from, notes, line, ended)?;
-    auditor.next(exits, &entry)
+    let is_legal = auditor.next(exits, &entry);
+    drop(entry);
+    is_legal
 }
 
 // Hands a row to an auditor. Whether it is legal.
@@ -299,7 +302,21 @@ fn is_legal(
     }
 }
 
-// The place of the first row that isn't legal in a log of a system that was read, and whether the row behind it is.
+// The place of the first row that isn't legal in a log, and whether the row behind it is.
+fn judged_by(
+    alloc: Global,
+    auditor: &mut Auditor,
+    exits: &Exits,
+    log: &[Row],
+    behind: Option<&Row>,
+) -> Result<(Option<usize>, bool), AllocError>
+    requires { AreSpread auditor.old.defs (kinds_of exits.now) }
+{
+    let found = first_illegal(alloc, auditor, exits, log)?;
+    Ok((found, is_legal(alloc, auditor, exits, behind)?))
+}
+
+// The same of a system that was read.
 fn judged_on(
     alloc: Global,
     ground: &Ground,
@@ -310,9 +327,7 @@ fn judged_on(
     requires can { CanAudit ground.now.defs ground.now.scripts.scripts }
 {
     let mut auditor = Auditor::new(alloc, &ground.defs, &ground.scripts, 1)?;
-    let found = first_illegal(alloc, &mut auditor, &ground.exits, log)?;
-    let is_legal = is_legal(alloc, &mut auditor, &ground.exits, behind)?;
-    Ok((found, is_legal))
+    judged_by(alloc, &mut auditor, &ground.exits, log, behind)
 }
 
 // The same of a system.
@@ -323,7 +338,9 @@ fn judged(
     behind: Option<&Row>,
 ) -> Result<(Option<usize>, bool), Fail> {
     let ground = system.read(alloc)?;
-    Ok(judged_on(alloc, &ground, log, behind)?)
+    let found = judged_on(alloc, &ground, log, behind);
+    drop(ground);
+    Ok(found?)
 }
 
 // A log of legal entries of a system, and entries that aren't legal behind so many of it.
@@ -454,7 +471,9 @@ fn is_log_legal(alloc: Global, ground: &Ground, count: u64) -> Result<bool, Allo
 // The same of the sample.
 fn is_long_log_legal(alloc: Global, count: u64) -> Result<bool, Fail> {
     let ground = SAMPLE.read(alloc)?;
-    Ok(is_log_legal(alloc, &ground, count)?)
+    let is_legal = is_log_legal(alloc, &ground, count);
+    drop(ground);
+    Ok(is_legal?)
 }
 
 /// Memory suffices for a log of some thousand entries.

@@ -57,9 +57,11 @@ fn is_read(found: &Result<Defs, DefsFault>, wanted: &Reading) -> bool {
 #[test]
 fn the_sample(rt: HostRuntime) -> Result<(), Fail> {
     let defs = sample(rt.alloc())?;
-    assert!(rt; is_top(&defs));
-    assert!(rt; is_accounts(&defs));
-    assert!(rt; is_customers(&defs));
+    let (top, accounts, customers) = (is_top(&defs), is_accounts(&defs), is_customers(&defs));
+    drop(defs);
+    assert!(rt; top);
+    assert!(rt; accounts);
+    assert!(rt; customers);
     Ok(())
 }
 
@@ -136,6 +138,20 @@ fn is_area(areas: &[AreaDef]) -> bool {
         && [area.uows, area.capacity] == [2, 4]
 }
 
+// Whether a text is read so where there are routers and spreaders of these kinds.
+fn reads(
+    alloc: Global,
+    bytes: &[u8],
+    routing: &[Kind],
+    spreading: &[Kind],
+    wanted: &Reading,
+) -> bool {
+    let found = read_with(alloc, bytes, routing, spreading);
+    let is_so = is_read(&found, wanted);
+    drop(found);
+    is_so
+}
+
 // Whether so many lines of 10 bytes each with a comment, and a text behind them, are read so.
 fn is_long_read(
     alloc: Global,
@@ -148,8 +164,7 @@ fn is_long_read(
         whole.push_str("#########\n")?;
     }
     whole.push_str(text)?;
-    let found = read_with(alloc, whole.as_bytes(), BOTH, BOTH);
-    Ok(is_read(&found, wanted))
+    Ok(reads(alloc, whole.as_bytes(), BOTH, BOTH, wanted))
 }
 
 // What stands behind 1,000,000 bytes, and what is said.
@@ -230,8 +245,10 @@ static TEXTS: [(&[u8], &[Kind], &[Kind], Reading); 12] = [
 #[test]
 fn texts_have_their_first_fault(rt: HostRuntime) -> Result<(), Fail> {
     for (place, (text, routing, spreading, wanted)) in TEXTS.iter().enumerate() {
-        let found = read_with(rt.alloc(), text, routing, spreading);
-        assert!(rt; is_read(&found, wanted), "text {place}");
+        assert!(rt;
+            reads(rt.alloc(), text, routing, spreading, wanted),
+            "text {place}"
+        );
     }
     Ok(())
 }

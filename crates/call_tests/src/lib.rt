@@ -1,5 +1,5 @@
-//! Tests of what a transaction asks and what it is answered: scripts, calls to databases, trees of segments, commits, and
-//! the audit's second writing of these.
+//! Tests of what a transaction asks and what it is answered: scripts, calls to databases, trees of segments, commits,
+//! and the audit's second writing of these.
 //!
 //! They stand here and not in the crates that they test, since a crate with tests is proved twice.
 #![tactic(auto)]

@@ -226,7 +226,9 @@ fn runs(
         return Err(Fail::from("no such transaction"));
     };
     let mut program = Program::start(alloc, scripts, number);
-    Ok(follows(scripts, defs, message, &mut program, turns, end, alloc)?)
+    let follows = follows(scripts, defs, message, &mut program, turns, end, alloc);
+    drop(program);
+    Ok(follows?)
 }
 
 // The same where this is the text of the scripts.
@@ -241,7 +243,9 @@ fn runs_by(
     requires { AreDefs defs.now }
 {
     let scripts = read(alloc, text, defs)?;
-    runs(alloc, &scripts, defs, message, turns, end)
+    let runs = runs(alloc, &scripts, defs, message, turns, end);
+    drop(scripts);
+    runs
 }
 
 // Whether the transaction goes so, where these are the scripts.
@@ -255,7 +259,10 @@ fn goes(
 ) -> Result<bool, Fail> {
     let message = message(alloc, Name(*tran), words)?;
     let defs = sample(alloc)?;
-    runs_by(alloc, text, &defs, &message, turns, end)
+    let runs = runs_by(alloc, text, &defs, &message, turns, end);
+    drop(defs);
+    drop(message);
+    runs
 }
 
 // A customer with ten notes, all alike: no eleventh is asked for.

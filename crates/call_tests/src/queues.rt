@@ -10,7 +10,7 @@ ghost use Rattle.std.specs.Prelude.{◌≡◌, ◌<◌, ◌^◌, ◌∷◌, [], 
 
 use self::Action::{Add, Delete, Insert, Replace, Set, Verify};
 use crate::accounts::{defs, delete, field_call, insert};
-use fp_model::{Bytes, Deferred, List};
+use fp_model::{Bytes, Deferred, Defs, List};
 use msdb_store::{MsdbStore, VerifyFault};
 use std::alloc::{AllocError, Global};
 use std::test::Fail;
@@ -364,21 +364,45 @@ fn agree(
     let first = random.step();
     let second = random.perhaps_step();
     let outcome = settled(alloc, store, first, second)?;
-    let expected = told(settle_plainly(alloc, accounts, first, second))?;
-    Ok(outcome.err() == expected.err() && are_held(store, accounts) && are_met(store, accounts))
+    let expected = settle_plainly(alloc, accounts, first, second);
+    let is_same = outcome.err() == expected.err();
+    Ok(is_same && are_held(store, accounts) && are_met(store, accounts))
+}
+
+// The first round in which a store of these definitions and the list don't agree.
+fn first_unlike(
+    alloc: Global,
+    defs: &Defs,
+    store: &mut MsdbStore,
+) -> Result<Option<u32>, VerifyFault>
+    requires one { (def : DefOf) × (defs.now.msdbs ≡ def ∷ []) × IsMsdbDef def × (def.length ≡ 8)
+        × (key_length def.fields ≡ 4) }
+    requires store { IsOf defs.now.msdbs store.old }
+{
+    let mut accounts = Vec::new(alloc);
+    let mut random = Random(1);
+    for round in 0..1000u32 {
+        if !agree(alloc, store, &mut accounts, &mut random)? {
+            return Ok(Some(round));
+        }
+    }
+    Ok(None)
+}
+
+// The same on a store that is made.
+fn first_unlike_round(alloc: Global) -> Result<Option<u32>, Fail> {
+    let defs = defs(alloc, true)?;
+    let mut store = MsdbStore::start(alloc, &defs)?;
+    let unlike = first_unlike(alloc, &defs, &mut store);
+    drop(store);
+    drop(defs);
+    Ok(unlike?)
 }
 
 #[test]
 fn mixed_calls_meet_a_plain_list(rt: HostRuntime) -> Result<(), Fail> {
-    let alloc = rt.alloc();
-    let defs = defs(alloc, true)?;
-    let mut store = MsdbStore::start(alloc, &defs)?;
-    let mut accounts = Vec::new(alloc);
-    let mut random = Random(1);
-    for round in 0..1000u32 {
-        let alike = agree(alloc, &mut store, &mut accounts, &mut random)?;
-        assert!(rt; alike, "round {round}");
-    }
+    let unlike = first_unlike_round(rt.alloc())?;
+    assert!(rt; unlike.is_none(), "round {unlike:?}");
     Ok(())
 }
 
@@ -425,16 +449,19 @@ static ROWS: [Row; 5] = [
     },
 ];
 
-// The outcome of a row as the store tells it.
-fn outcome(alloc: Global, row: &Row) -> Result<usize, VerifyFault> {
-    match row.wanted {
-        Ok(items) => Ok(items),
-        Err((call, fsa, found)) => Err(failure(alloc, call, fsa, found)),
+// Whether the store tells this outcome of a row.
+fn is_wanted(found: &Result<usize, VerifyFault>, row: &Row) -> bool {
+    match (found, &row.wanted) {
+        (Ok(items), Ok(wanted)) => items == wanted,
+        (Err(VerifyFault::Verify { call, fsa, found }), Err((c, f, bytes))) => {
+            call == c && fsa == f && found.as_slice() == *bytes
+        }
+        _ => false,
     }
 }
 
-/// The segments of the one database, one after another.
-pub(crate) fn segments(alloc: Global, store: &MsdbStore) -> Result<Bytes, AllocError> {
+// The segments of the one database, one after another.
+fn segments(alloc: Global, store: &MsdbStore) -> Result<Bytes, AllocError> {
     let mut text = Bytes::new(alloc);
     for msdb in store.databases(alloc)?.as_slice() {
         for segment in msdb.segments.as_slice() {
@@ -442,6 +469,16 @@ pub(crate) fn segments(alloc: Global, store: &MsdbStore) -> Result<Bytes, AllocE
         }
     }
     Ok(text)
+}
+
+/// Whether the one database has these segments, one after another.
+pub(crate) fn has_segments(
+    alloc: Global,
+    store: &MsdbStore,
+    wanted: &[u8],
+) -> Result<bool, AllocError> {
+    let text = segments(alloc, store)?;
+    Ok(text.as_slice() == wanted)
 }
 
 // Settles the queue of a row on the store. Whether it comes to what is wanted.
@@ -452,18 +489,43 @@ fn goes(alloc: Global, store: &mut MsdbStore, row: &Row) -> Result<bool, VerifyF
         → key_length def.fields ≡ 4 → IsOf defs store.old → IsOf defs store.new }
 {
     let found = settled(alloc, store, row.calls[0], Some(row.calls[1]))?;
-    let segments = segments(alloc, store)?;
-    Ok(found == told(outcome(alloc, row))? && segments.as_slice() == row.segments)
+    let is_wanted = is_wanted(&found, row);
+    drop(found);
+    Ok(is_wanted && has_segments(alloc, store, row.segments)?)
+}
+
+// The first row that comes to something else on a store of these definitions.
+fn first_other(
+    alloc: Global,
+    defs: &Defs,
+    store: &mut MsdbStore,
+) -> Result<Option<usize>, VerifyFault>
+    requires one { (def : DefOf) × (defs.now.msdbs ≡ def ∷ []) × IsMsdbDef def × (def.length ≡ 8)
+        × (key_length def.fields ≡ 4) }
+    requires store { IsOf defs.now.msdbs store.old }
+{
+    for (place, row) in ROWS.iter().enumerate() {
+        if !goes(alloc, store, row)? {
+            return Ok(Some(place));
+        }
+    }
+    Ok(None)
+}
+
+// The same on a store that is made.
+fn first_other_row(alloc: Global) -> Result<Option<usize>, Fail> {
+    let defs = defs(alloc, true)?;
+    let mut store = MsdbStore::start(alloc, &defs)?;
+    let other = first_other(alloc, &defs, &mut store);
+    drop(store);
+    drop(defs);
+    Ok(other?)
 }
 
 // Calls meet what those before them left, and the first failure is told.
 #[test]
 fn queues_come_to_what_is_wanted(rt: HostRuntime) -> Result<(), Fail> {
-    let alloc = rt.alloc();
-    let defs = defs(alloc, true)?;
-    let mut store = MsdbStore::start(alloc, &defs)?;
-    for (place, row) in ROWS.iter().enumerate() {
-        assert!(rt; goes(alloc, &mut store, row)?, "row {place}");
-    }
+    let other = first_other_row(rt.alloc())?;
+    assert!(rt; other.is_none(), "row {other:?}");
     Ok(())
 }

@@ -112,17 +112,19 @@ fn comes(
         defs,
         scripts,
     } = ground;
+    let Some(notes) = notes(alloc, entry, place)? else {
+        return Ok(false);
+    };
     let message = message(alloc, Name(*entry.0), entry.1)?;
     let Some(number) = scripts.find(&message.tran) else {
         return Ok(false);
     };
-    let Some(notes) = notes(alloc, entry, place)? else {
-        return Ok(false);
-    };
     let alone = replay(
         alloc, pasts, anchors, defs, scripts, exits, place, &message, number, &notes,
-    )?;
-    Ok(is_so(&alone, &entry.3))
+    );
+    drop(message);
+    drop(notes);
+    Ok(is_so(&alone?, &entry.3))
 }
 
 // Runs entries again on databases without segments, each at its place in the list. The first that comes to something
@@ -153,13 +155,18 @@ fn first_other_of(alloc: Global, ground: &Ground, entries: &[Entry]) -> Result<O
 {
     let mut pasts = empty(alloc, &ground.defs)?;
     let mut anchors = Anchors::new(alloc, &ground.defs)?;
-    Ok(first_other(alloc, &mut pasts, &mut anchors, ground, entries)?)
+    let other = first_other(alloc, &mut pasts, &mut anchors, ground, entries);
+    drop(anchors);
+    drop(pasts);
+    Ok(other?)
 }
 
 /// Runs entries of tellers again. The first that comes to something else than it says.
 fn run_entries(alloc: Global, entries: &[Entry]) -> Result<Option<usize>, Fail> {
     let ground = TELLERS.read(alloc)?;
-    first_other_of(alloc, &ground, entries)
+    let other = first_other_of(alloc, &ground, entries);
+    drop(ground);
+    other
 }
 
 /// Tellers are hired and paid. Notes name older states, and a second withdrawal fails at the sync point.
@@ -182,7 +189,8 @@ const PAID: &[Entry] = &[
     Entry(b"ASK     ", b"T002", &[10], Ended::Done(b"NONE")),
 ];
 
-/// A hold shows the state of the place, whatever its transaction noted, and a teller who is fired is gone from there on.
+/// A hold shows the state of the place, whatever its transaction noted, and a teller who is fired is gone from there
+/// on.
 const HOLDS: &[Entry] = &[
     Entry(b"HIRE    ", b"T001 7", &[], Ended::Done(b"HIRED")),
     Entry(b"SET     ", b"T001 9", &[], Ended::Done(b"7")),

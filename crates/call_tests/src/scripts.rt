@@ -40,14 +40,32 @@ pub(crate) fn read(alloc: Global, text: &[u8], defs: &Defs) -> Result<Scripts, S
     parse(alloc, text, defs)
 }
 
+// What a text is by the definitions of the sample.
+fn read_by_sample(alloc: Global, text: &[u8]) -> Result<Scripts, Fail> {
+    let defs = sample(alloc)?;
+    let scripts = read(alloc, text, &defs);
+    drop(defs);
+    Ok(scripts?)
+}
+
+// The first name that these scripts find elsewhere.
+fn first_other_name(scripts: &Scripts) -> Option<usize> {
+    for (place, (name, wanted)) in NAMES.iter().enumerate() {
+        if scripts.find(&Name(**name)) != *wanted {
+            return Some(place);
+        }
+    }
+    None
+}
+
 #[test]
 fn the_sample_is_read(rt: HostRuntime) -> Result<(), Fail> {
-    let defs = sample(rt.alloc())?;
-    let scripts = read(rt.alloc(), SAMPLE.scripts, &defs)?;
-    assert!(rt; scripts.text() == SAMPLE.scripts);
-    for (place, (name, wanted)) in NAMES.iter().enumerate() {
-        assert!(rt; scripts.find(&Name(**name)) == *wanted, "name {place}");
-    }
+    let scripts = read_by_sample(rt.alloc(), SAMPLE.scripts)?;
+    let has_text = scripts.text() == SAMPLE.scripts;
+    let wrong = first_other_name(&scripts);
+    drop(scripts);
+    assert!(rt; has_text);
+    assert!(rt; wrong.is_none(), "name {wrong:?}");
     Ok(())
 }
 
@@ -234,12 +252,18 @@ fn has_statement(scripts: &Scripts, place: usize) -> bool {
     }
 }
 
+// Whether a text has the statement of a place alone.
+fn reads_as(alloc: Global, text: &[u8], place: usize) -> Result<bool, Fail> {
+    let scripts = read_by_sample(alloc, text)?;
+    let is_so = has_statement(&scripts, place);
+    drop(scripts);
+    Ok(is_so)
+}
+
 #[test]
 fn statements_have_their_values(rt: HostRuntime) -> Result<(), Fail> {
-    let defs = sample(rt.alloc())?;
     for (row, (line, place, is_so)) in STATEMENTS.iter().enumerate() {
-        let scripts = read(rt.alloc(), line, &defs)?;
-        assert!(rt; has_statement(&scripts, *place) == *is_so, "row {row}");
+        assert!(rt; reads_as(rt.alloc(), line, *place)? == *is_so, "row {row}");
     }
     Ok(())
 }

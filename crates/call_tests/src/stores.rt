@@ -70,19 +70,43 @@ fn filled(alloc: Global) -> Result<MsdbStore, AllocError>
     ensures { IfOk result (λ store. length store.msdbs ≡ 1) }
 {
     let defs = defs(alloc, true)?;
-    let mut store = empty(alloc, &defs)?;
+    let store = empty(alloc, &defs);
+    drop(defs);
+    let mut store = store?;
     fill(alloc, &mut store)?;
     Ok(store)
+}
+
+// The first key at which something else stands.
+fn first_other_at(store: &MsdbStore) -> Option<usize>
+    requires { length store.now.msdbs ≡ 1 }
+{
+    for (place, (key, wanted)) in AT.iter().enumerate() {
+        if store.look(0, key) != *wanted {
+            return Some(place);
+        }
+    }
+    None
+}
+
+// The first row behind whose key something else stands.
+fn first_other_behind(store: &MsdbStore) -> Option<usize>
+    requires { length store.now.msdbs ≡ 1 }
+{
+    for (place, (key, wanted)) in AFTER.iter().enumerate() {
+        if store.after(0, *key) != *wanted {
+            return Some(place);
+        }
+    }
+    None
 }
 
 #[test]
 fn segments_stand_by_key(rt: HostRuntime) -> Result<(), Fail> {
     let store = filled(rt.alloc())?;
-    for (place, (key, wanted)) in AT.iter().enumerate() {
-        assert!(rt; store.look(0, key) == *wanted, "at {place}");
-    }
-    for (place, (key, wanted)) in AFTER.iter().enumerate() {
-        assert!(rt; store.after(0, *key) == *wanted, "behind {place}");
-    }
+    let (at, behind) = (first_other_at(&store), first_other_behind(&store));
+    drop(store);
+    assert!(rt; at.is_none(), "at {at:?}");
+    assert!(rt; behind.is_none(), "behind {behind:?}");
     Ok(())
 }

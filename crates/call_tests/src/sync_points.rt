@@ -11,7 +11,7 @@ ghost use Rattle.std.specs.Prelude.{◌≡◌, ◌<◌, ◌^◌, ◌∷◌, [], 
 
 use crate::accounts::{defs, field_call, insert};
 use crate::queues::Action::{Add, Insert, Verify};
-use crate::queues::{A, B, C, Step, queue, segments};
+use crate::queues::{A, B, C, Step, has_segments, queue};
 use fp_model::{Bytes, Deferred, Defs, Entry, List, Outcome, Resource};
 use fp_site::Site;
 use log_groups::{Front, Log, LogFault};
@@ -46,7 +46,10 @@ fn made<S: Site>(alloc: Global, site: &mut S, front: &Front) -> Result<Log, LogF
 fn empty_log(alloc: Global) -> Result<Log, LogFault> {
     let front = front(alloc)?;
     let mut site = MemorySite::new(alloc, &[])?;
-    made(alloc, &mut site, &front)
+    let log = made(alloc, &mut site, &front);
+    drop(site);
+    drop(front);
+    log
 }
 
 // ---- drafts
@@ -109,12 +112,7 @@ fn draft(alloc: Global, from: u64, row: &Row) -> Result<Draft, AllocError>
 }
 
 // Commits the draft of a row: how many items, or which call fails.
-fn committed(
-    alloc: Global,
-    store: &mut MsdbStore,
-    log: &mut Log,
-    row: &Row,
-) -> Result<Result<usize, Cause>, Cause>
+fn committed(alloc: Global, store: &mut MsdbStore, log: &mut Log, row: &Row) -> Result<usize, Cause>
     requires { (defs : ListOf DefOf) × (def : DefOf) × (defs ≡ def ∷ []) × IsMsdbDef def × (def.length ≡ 8)
         × (key_length def.fields ≡ 4) × IsOf defs store.old }
     ensures { (defs : ListOf DefOf) → (def : DefOf) → defs ≡ def ∷ [] → IsMsdbDef def → def.length ≡ 8
@@ -122,20 +120,19 @@ fn committed(
 {
     let draft = draft(alloc, log.count(), row)?;
     match commit(draft, store, log) {
-        Ok(entry) => Ok(Ok(entry.items.len())),
-        Err(Cause::Memory) => Err(Cause::Memory),
-        Err(cause) => Ok(Err(cause)),
+        Ok(entry) => Ok(entry.items.len()),
+        Err(cause) => Err(cause),
     }
 }
 
-// The answer of a row as `commit` gives it.
-fn wanted(alloc: Global, row: &Row) -> Result<Result<usize, Cause>, AllocError> {
-    match row.wanted {
-        Ok(items) => Ok(Ok(items)),
-        Err((call, fsa, found)) => {
-            let found = Bytes::from_slice(alloc, found)?;
-            Ok(Err(Cause::Verify { call, fsa, found }))
+// Whether a commit answers as a row says.
+fn is_wanted(found: &Result<usize, Cause>, row: &Row) -> bool {
+    match (found, &row.wanted) {
+        (Ok(items), Ok(wanted)) => items == wanted,
+        (Err(Cause::Verify { call, fsa, found }), Err((c, f, bytes))) => {
+            call == c && fsa == f && found.as_slice() == *bytes
         }
+        _ => false,
     }
 }
 
@@ -146,11 +143,15 @@ fn goes(alloc: Global, store: &mut MsdbStore, log: &mut Log, row: &Row) -> Resul
     ensures { (defs : ListOf DefOf) → (def : DefOf) → defs ≡ def ∷ [] → IsMsdbDef def → def.length ≡ 8
         → key_length def.fields ≡ 4 → IsOf defs store.old → IsOf defs store.new }
 {
-    if committed(alloc, store, log, row)? != wanted(alloc, row)? {
-        return Ok(false);
-    }
-    let segments = segments(alloc, store)?;
-    Ok(log.count() == row.entries && log.spare() >= ROOM && segments.as_slice() == row.segments)
+    let found = committed(alloc, store, log, row);
+    let is_wanted = is_wanted(&found, row);
+    drop(found);
+    Ok(
+        is_wanted
+            && log.count() == row.entries
+            && log.spare() >= ROOM
+            && has_segments(alloc, store, row.segments)?,
+    )
 }
 
 // The rows. The check pays for a table in each function that names it.
@@ -191,7 +192,11 @@ fn first_other_draft(alloc: Global) -> Result<usize, Fail> {
     let defs = defs(alloc, true)?;
     let mut store = MsdbStore::start(alloc, &defs)?;
     let mut log = roomy_log(alloc)?;
-    Ok(first_other(alloc, &defs, &mut store, &mut log)?)
+    let other = first_other(alloc, &defs, &mut store, &mut log);
+    drop(log);
+    drop(store);
+    drop(defs);
+    Ok(other?)
 }
 
 #[test]
@@ -229,8 +234,12 @@ fn text_of(alloc: Global, named: &List<Resource>) -> Result<Bytes, AllocError> {
 fn a_queue_names_each_segment_once(rt: HostRuntime) -> Result<(), Fail> {
     let alloc = rt.alloc();
     let calls = field_calls(alloc, [B, A, C, A])?;
-    let named = resources(alloc, &calls)?;
-    let text = text_of(alloc, &named)?;
+    let named = resources(alloc, &calls);
+    drop(calls);
+    let named = named?;
+    let text = text_of(alloc, &named);
+    drop(named);
+    let text = text?;
     assert!(rt; text.as_slice() == b"\x00A001\x00B002\x00C003".as_slice());
     Ok(())
 }
@@ -253,19 +262,31 @@ fn refusal(alloc: Global, line: Bytes) -> Entry
     }
 }
 
+// Appends the refusal of a line to a log.
+fn append_refusal(alloc: Global, log: &mut Log, line: Bytes) -> Result<(), AllocError>
+    requires { length line < 2 ^ 16 }
+{
+    let entry = refusal(alloc, line);
+    let appended = append_beside(log, &entry, 0);
+    drop(entry);
+    appended
+}
+
 // Appends the refusal of a line to a log without entries that keeps just its room free. The room, how many entries the
 // log has then, and what it keeps free.
 fn refused(alloc: Global, log: &mut Log) -> Result<[u64; 3], LogFault> {
     let line = Bytes::from_slice(alloc, b"T1 MOVE")?;
     let room = refusal_room(&line);
     log.reserve(room)?;
-    append_beside(log, &refusal(alloc, line), 0)?;
+    append_refusal(alloc, log, line)?;
     Ok([room, log.count(), log.spare()])
 }
 
 #[test]
 fn a_refusal_fills_its_room(rt: HostRuntime) -> Result<(), Fail> {
     let mut log = empty_log(rt.alloc())?;
-    assert!(rt; refused(rt.alloc(), &mut log)? == [36, 1, 0]);
+    let refused = refused(rt.alloc(), &mut log);
+    drop(log);
+    assert!(rt; refused? == [36, 1, 0]);
     Ok(())
 }

@@ -154,8 +154,8 @@ REPLY 'GONE'
 };
 
 /// The sample, with some more scripts: accounts with 100 and 50, in ACCTS 0, a teller, in TELLERS 1, and customers with
-/// sequential notes and with loans, in CUST 2, in two areas of four anchors. The folding randomizer sends C001 and C009 to
-/// anchor 6, and C003 to anchor 0. The areas' data sets are 3 and 4.
+/// sequential notes and with loans, in CUST 2, in two areas of four anchors. The folding randomizer sends C001 and C009
+/// to anchor 6, and C003 to anchor 0. The areas' data sets are 3 and 4.
 pub(crate) const SAMPLE: System = System {
     definitions: r#"regions = [1, 1]
 router = "FOLD"

@@ -9,10 +9,9 @@ ghost use Rattle.std.specs.List.{AllByRecursion};
 ghost use Rattle.std.specs.Prelude.{◌≡◌, ◌∷◌, [], IfOk, IfSome, length};
 ghost use Rattle.dli_calls.specs.Progress.{IsWorkOf};
 
-use crate::accounts::defs;
+use crate::accounts::{argument, defs};
 use ci_locks::Locks;
 use dli_calls::{Ready, Work, answer};
-use fld_calls::{Fsa, write_list};
 use fp_exits::Exits;
 use fp_model::{Bytes, Call, Defs, Get, List, Msdb, Name, Ssa};
 use msdb_store::MsdbStore;
@@ -59,19 +58,6 @@ fn ssas(alloc: Global, key: &Option<[u8; 4]>) -> Result<List<Ssa>, AllocError>
     Ok(ssas)
 }
 
-fn argument(alloc: Global, name: [u8; 8], op: u8, operand: [u8; 7]) -> Result<Bytes, AllocError>
-    ensures { IfOk result IsFsaList }
-{
-    let mut fsas = List::new(alloc);
-    fsas.push(Fsa {
-        field: Name(name),
-        status: b' ',
-        op,
-        operand: Bytes::from_slice(alloc, &operand)?,
-    })?;
-    write_list(alloc, &fsas)
-}
-
 fn withdrawal(alloc: Global) -> Result<Bytes, AllocError>
     ensures { IfOk result IsFsaList }
 {
@@ -98,7 +84,7 @@ fn call_of(alloc: Global, defs: &Defs, step: &Step) -> Result<Call, AllocError>
         Step::Fld(key, name, op, operand) => Ok(Call::Fld {
             db: 0,
             key: Bytes::from_slice(alloc, key)?,
-            fsas: argument(alloc, *name, *op, *operand)?,
+            fsas: argument(alloc, Name(*name), *op, operand)?,
         }),
         Step::Repl(bytes) => Ok(Call::Repl {
             db: 0,
@@ -127,7 +113,7 @@ struct Run {
 const REGION: u8 = 1;
 
 // Puts an answer to the others. A lock that is needed is asked for.
-fn take(locks: &mut Locks, ready: Ready, run: &mut Run) -> Result<bool, AllocError>
+fn take(locks: &mut Locks, ready: &Ready, run: &mut Run) -> Result<bool, AllocError>
     requires { length locks.old ≡ 1 }
     ensures { length locks.new ≡ 1 }
 {
@@ -139,31 +125,36 @@ fn take(locks: &mut Locks, ready: Ready, run: &mut Run) -> Result<bool, AllocErr
         }
         Ready::Need(resource, mode) => {
             run.statuses.append(b"ND")?;
-            locks.ask(REGION, &resource, mode)?;
+            locks.ask(REGION, resource, *mode)?;
             Ok(false)
         }
     }
 }
 
-// Asks a call once.
+// Asks a call once. Whether it was answered.
 fn ask_once(
     alloc: Global,
     work: &mut Work,
-    locks: &Locks,
+    locks: &mut Locks,
     call: &Call,
     store: &MsdbStore,
     defs: &Defs,
     exits: &Exits,
-) -> Result<Ready, AllocError>
+    run: &mut Run,
+) -> Result<bool, AllocError>
     requires defs { AllByRecursion IsMsdbDef defs.now.msdbs }
     requires alone { defs.now.dedbs ≡ [] }
     requires store { IsOf defs.now.msdbs store.now }
     requires work { IsWorkOf defs.now work.old }
     requires call { IsMsdbCall defs.now.msdbs call.now }
-    requires locks { length locks.now ≡ 1 }
-    ensures { IsWorkOf defs.now work.new }
+    requires locks { length locks.old ≡ 1 }
+    ensures work { IsWorkOf defs.now work.new }
+    ensures locks { length locks.new ≡ 1 }
 {
-    answer(alloc, work, call, store, defs, exits, locks, REGION, 7)
+    let ready = answer(alloc, work, call, store, defs, exits, locks, REGION, 7)?;
+    let taken = take(locks, &ready, run);
+    drop(ready);
+    taken
 }
 
 // Asks a call, and once more where it needed a lock.
@@ -186,10 +177,8 @@ fn ask(
     ensures work { IsWorkOf defs.now work.new }
     ensures locks { length locks.new ≡ 1 }
 {
-    let ready = ask_once(alloc, work, locks, call, store, defs, exits)?;
-    if !take(locks, ready, run)? {
-        let ready = ask_once(alloc, work, locks, call, store, defs, exits)?;
-        take(locks, ready, run)?;
+    if !ask_once(alloc, work, locks, call, store, defs, exits, run)? {
+        ask_once(alloc, work, locks, call, store, defs, exits, run)?;
     }
     Ok(())
 }
@@ -239,16 +228,23 @@ fn run_on(
     let exits = Exits::new(Vec::new(alloc), Vec::new(alloc));
     let mut work = Work::new(alloc, defs)?;
     let mut locks = Locks::new(alloc, REGION)?;
-    ask_all(
+    let asked = ask_all(
         alloc, &mut work, &mut locks, steps, store, defs, &exits, run,
-    )
+    );
+    drop(locks);
+    drop(work);
+    drop(exits);
+    asked
 }
 
 // The same on the store above.
 fn run_of(alloc: Global, dynamic: bool, steps: &[Step], run: &mut Run) -> Result<(), AllocError> {
     let defs = defs(alloc, dynamic)?;
     let store = store(alloc, &defs)?;
-    run_on(alloc, steps, &store, &defs, run)
+    let asked = run_on(alloc, steps, &store, &defs, run);
+    drop(store);
+    drop(defs);
+    asked
 }
 
 // GU of a key, GU without one, GN up to the end, and gets that a main storage database doesn't have.

@@ -131,11 +131,12 @@ fn inserts(
     types: &List<SegDef>,
     roots: &mut List<Root>,
     steps: Steps,
+    new: bool,
 ) -> Result<bool, AllocError>
     requires { AreTypes types.now }
 {
     let path = path(alloc, steps)?;
-    insert(alloc, roots, types, &path, new_bytes(alloc, steps)?)
+    Ok(insert(alloc, roots, types, &path, new_bytes(alloc, steps)?)? == new)
 }
 
 fn adds(alloc: Global, roots: &mut List<Root>, at: usize, serial: u64) -> Result<bool, AllocError> {
@@ -153,11 +154,12 @@ fn replaces(
     roots: &mut List<Root>,
     steps: Steps,
     bytes: &[u8],
+    there: bool,
 ) -> Result<bool, AllocError>
     requires { AreTypes types.now }
 {
     let path = path(alloc, steps)?;
-    Ok(replace(roots, types, &path, Bytes::from_slice(alloc, bytes)?))
+    Ok(replace(roots, types, &path, Bytes::from_slice(alloc, bytes)?) == there)
 }
 
 fn deletes(
@@ -165,10 +167,11 @@ fn deletes(
     types: &List<SegDef>,
     roots: &mut List<Root>,
     steps: Steps,
+    there: bool,
 ) -> Result<bool, AllocError>
     requires { AreTypes types.now }
 {
-    Ok(delete(roots, types, &path(alloc, steps)?))
+    Ok(delete(roots, types, &path(alloc, steps)?) == there)
 }
 
 fn is_step(step: &Step, row: &(u8, &[u8], u64)) -> bool {
@@ -202,34 +205,41 @@ fn finds(
     types: &List<SegDef>,
     roots: &List<Root>,
     from: (&Option<Steps>, &Option<Steps>),
-    ssas: &List<Ssa>,
+    rows: Arguments,
     wanted: &Option<Steps>,
 ) -> Result<bool, AllocError>
     requires { AreTypes types.now }
 {
     let position = path_or_none(alloc, from.0)?;
     let within = path_or_none(alloc, from.1)?;
+    let ssas = arguments(alloc, rows)?;
     let found = first_after(
         alloc,
         roots,
         types,
         position.as_ref(),
         within.as_ref(),
-        ssas,
-    )?;
-    Ok(is_found(&found, wanted))
+        &ssas,
+    );
+    drop(ssas);
+    drop(within);
+    drop(position);
+    Ok(is_found(&found?, wanted))
 }
 
 fn shows(
     alloc: Global,
     types: &List<SegDef>,
     roots: &List<Root>,
-    ssas: &List<Ssa>,
+    rows: Arguments,
     bytes: &[u8],
 ) -> Result<bool, AllocError>
     requires { AreTypes types.now }
 {
-    match first_after(alloc, roots, types, None, None, ssas)? {
+    let ssas = arguments(alloc, rows)?;
+    let found = first_after(alloc, roots, types, None, None, &ssas);
+    drop(ssas);
+    match found? {
         None => Ok(false),
         Some((_, found)) => Ok(found.as_slice() == bytes),
     }
@@ -245,20 +255,16 @@ fn answers(
     requires { AreTypes types.now }
 {
     match call {
-        Call::Insert(steps, new) => Ok(inserts(alloc, types, roots, steps)? == *new),
+        Call::Insert(steps, new) => inserts(alloc, types, roots, steps, *new),
         Call::Add(at, serial) => adds(alloc, roots, *at, *serial),
         Call::Replace(steps, bytes, there) => {
-            Ok(replaces(alloc, types, roots, steps, bytes)? == *there)
+            replaces(alloc, types, roots, steps, bytes, *there)
         }
-        Call::Delete(steps, there) => Ok(deletes(alloc, types, roots, steps)? == *there),
-        Call::Find(position, within, ssas, wanted) => {
-            let ssas = arguments(alloc, ssas)?;
-            finds(alloc, types, roots, (position, within), &ssas, wanted)
+        Call::Delete(steps, there) => deletes(alloc, types, roots, steps, *there),
+        Call::Find(position, within, rows, wanted) => {
+            finds(alloc, types, roots, (position, within), rows, wanted)
         }
-        Call::Shows(ssas, bytes) => {
-            let ssas = arguments(alloc, ssas)?;
-            shows(alloc, types, roots, &ssas, bytes)
-        }
+        Call::Shows(rows, bytes) => shows(alloc, types, roots, rows, bytes),
     }
 }
 

@@ -19,7 +19,9 @@ const RANGE: Kind = Kind::Range;
 const KINDS: &[Kind] = &[RANGE, FOLD];
 
 /// A kind, a key, the number of places, and its place.
-static KEYS: [(Kind, &[u8], u64, u64); 24] = [
+type Key = (Kind, &'static [u8], u64, u64);
+
+static KEYS: [Key; 24] = [
     (FOLD, b"C001", 8, 6),
     (FOLD, b"C003", 8, 0),
     (FOLD, b"C009", 8, 6),
@@ -67,7 +69,8 @@ static TRANSACTIONS: [(Kind, Name, u64, u64); 16] = [
 ];
 
 /// A spreader of a kind, which counts its calls.
-fn spreader(alloc: Global, kind: Kind, calls: Rc<Cell<u64>>) -> Result<Spreader, AllocError> {
+fn spreader(alloc: Global, kind: Kind, calls: &Rc<Cell<u64>>) -> Result<Spreader, AllocError> {
+    let calls = calls.clone()?;
     let f: Spreading = Box::new(
         alloc,
         move |key: &[u8], n: u64| -> u64
@@ -85,7 +88,8 @@ fn spreader(alloc: Global, kind: Kind, calls: Rc<Cell<u64>>) -> Result<Spreader,
 }
 
 /// A router of a kind, which counts its calls.
-fn router(alloc: Global, kind: Kind, calls: Rc<Cell<u64>>) -> Result<Router, AllocError> {
+fn router(alloc: Global, kind: Kind, calls: &Rc<Cell<u64>>) -> Result<Router, AllocError> {
+    let calls = calls.clone()?;
     let f: Routing = Box::new(
         alloc,
         move |tran: &Name, n: u64| -> u64
@@ -106,7 +110,7 @@ fn router(alloc: Global, kind: Kind, calls: Rc<Cell<u64>>) -> Result<Router, All
 fn spreaders(alloc: Global, calls: &Rc<Cell<u64>>) -> Result<Vec<Spreader>, AllocError> {
     let mut spreaders = Vec::new(alloc);
     for kind in KINDS {
-        spreaders.push(spreader(alloc, *kind, calls.clone()?)?)?;
+        spreaders.push(spreader(alloc, *kind, calls)?)?;
     }
     Ok(spreaders)
 }
@@ -115,7 +119,7 @@ fn spreaders(alloc: Global, calls: &Rc<Cell<u64>>) -> Result<Vec<Spreader>, Allo
 fn routers(alloc: Global, calls: &Rc<Cell<u64>>) -> Result<Vec<Router>, AllocError> {
     let mut routers = Vec::new(alloc);
     for kind in KINDS {
-        routers.push(router(alloc, *kind, calls.clone()?)?)?;
+        routers.push(router(alloc, *kind, calls)?)?;
     }
     Ok(routers)
 }
@@ -142,9 +146,13 @@ fn has_group(exits: &Exits, kind: Kind, tran: &Name, n: u64, group: u64) -> bool
     }
 }
 
+fn keys() -> &'static [Key] {
+    &KEYS
+}
+
 /// The first key that has another place than it is to have.
 fn first_other_key(exits: &Exits) -> Option<usize> {
-    for (at, (kind, key, n, place)) in KEYS.iter().enumerate() {
+    for (at, (kind, key, n, place)) in keys().iter().enumerate() {
         if !has_place(exits, *kind, key, *n, *place) {
             return Some(at);
         }
@@ -162,25 +170,25 @@ fn first_other_transaction(exits: &Exits) -> Option<usize> {
     None
 }
 
-// The stored functions are called once for each row.
-#[test]
-fn keys_have_the_places_of_the_kinds(rt: HostRuntime) -> Result<(), AllocError> {
-    let calls = Rc::new(rt.alloc(), Cell::new(0u64))?;
-    let exits = Exits::new(spreaders(rt.alloc(), &calls)?, Vec::new(rt.alloc()));
-    let wrong = first_other_key(&exits);
-    assert!(rt; wrong.is_none() && calls.get() == 24, "key {wrong:?}");
-    Ok(())
+/// What is wrong with exits of each kind, whose functions are called once for each row: a key, or else a transaction.
+fn wrong_of(exits: &Exits, calls: &Rc<Cell<u64>>) -> (&'static str, Option<usize>) {
+    let key = first_other_key(exits);
+    if key.is_some() || calls.get() != 24 {
+        return ("key", key);
+    }
+    let transaction = first_other_transaction(exits);
+    if transaction.is_some() || calls.get() != 40 {
+        return ("transaction", transaction);
+    }
+    ("", None)
 }
 
 #[test]
-fn transactions_have_the_groups_of_the_kinds(rt: HostRuntime) -> Result<(), AllocError> {
+fn keys_and_transactions_have_the_places_of_the_kinds(rt: HostRuntime) -> Result<(), AllocError> {
     let calls = Rc::new(rt.alloc(), Cell::new(0u64))?;
-    let exits = Exits::new(Vec::new(rt.alloc()), routers(rt.alloc(), &calls)?);
-    let wrong = first_other_transaction(&exits);
-    assert!(rt;
-        wrong.is_none() && calls.get() == 16,
-        "transaction {wrong:?}"
-    );
+    let exits = Exits::new(spreaders(rt.alloc(), &calls)?, routers(rt.alloc(), &calls)?);
+    let (of, wrong) = wrong_of(&exits, &calls);
+    assert!(rt; of.is_empty(), "{of} {wrong:?}");
     Ok(())
 }
 

@@ -51,21 +51,31 @@ fn is_set(alloc: Global, lasts: &mut Lasts, digit: u8, number: u64, line: &[u8])
     }
 }
 
+/// Whether a terminal has this number and line.
+fn has(lasts: &Lasts, digit: u8, number: u64, line: &[u8]) -> bool {
+    match lasts.of(&terminal(digit)) {
+        Some((found, has)) => found == number && *has == *line,
+        None => false,
+    }
+}
+
+/// Whether at a place stands this terminal with its number.
+fn stands(lasts: &Lasts, place: u64, digit: u8, number: u64) -> bool {
+    match lasts.at(place) {
+        Some(found) => *found.0 == terminal(digit) && found.1 == number,
+        None => false,
+    }
+}
+
 /// Whether a step answers so.
 fn answers(alloc: Global, lasts: &mut Lasts, step: &Step) -> bool {
     match *step {
         Step::Set(digit, number, line) => is_set(alloc, lasts, digit, number, line),
-        Step::Has(digit, number, line) => match lasts.of(&terminal(digit)) {
-            Some(found) => found.0 == number && *found.1 == *line,
-            None => false,
-        },
+        Step::Has(digit, number, line) => has(lasts, digit, number, line),
         Step::HasNone(digit) => lasts.of(&terminal(digit)).is_none(),
-        Step::At(place, digit, number, count) => match lasts.at(place) {
-            Some(found) => {
-                *found.0 == terminal(digit) && found.1 == number && lasts.len() == count
-            }
-            None => false,
-        },
+        Step::At(place, digit, number, count) => {
+            lasts.len() == count && stands(lasts, place, digit, number)
+        }
         Step::Past(place) => lasts.at(place).is_none(),
     }
 }

@@ -3,7 +3,6 @@ ghost use Rattle.std.specs.Prelude.{◌≡◌, length};
 ghost use Rattle.fp_model.specs.Exits.{route};
 ghost use Rattle.fp_exits.specs.Ranges.{IsRoutable};
 
-use crate::steps::ended;
 use balancing::{Offer, Queues};
 use fp_exits::{Router, Routing, fold_group};
 use fp_model::{Bytes, Kind, Message, Name};
@@ -201,31 +200,36 @@ fn folding(alloc: Global) -> Result<Router, AllocError> {
     Ok(Router::new(Kind::Fold, folds))
 }
 
-/// The same of new queues; the number of steps where there is no memory for them.
-fn first_wrong_of(alloc: Global, router: &Router, steps: &[Step]) -> Option<usize> {
-    match Queues::new(alloc, 2) {
-        Ok(mut queues) => {
-            let wrong = first_wrong(alloc, &mut queues, router, steps);
-            ended(queues, wrong)
-        }
-        Err(AllocError) => Some(steps.len()),
+/// The same of new queues and a router that folds; the number of steps where there is no memory for them.
+fn first_wrong_of(alloc: Global, steps: &[Step]) -> Option<usize> {
+    match (Queues::new(alloc, 2), folding(alloc)) {
+        (Ok(mut queues), Ok(router)) => first_wrong(alloc, &mut queues, &router, steps),
+        _ => Some(steps.len()),
     }
 }
 
 #[test]
-fn terminals_and_their_messages(rt: HostRuntime) -> Result<(), AllocError> {
-    let router = folding(rt.alloc())?;
+fn terminals_and_their_messages(rt: HostRuntime) {
     for (name, steps) in &RUNS {
-        let wrong = first_wrong_of(rt.alloc(), &router, steps);
+        let wrong = first_wrong_of(rt.alloc(), steps);
         assert!(rt; wrong.is_none(), "{name}: at {wrong:?}");
     }
-    Ok(())
+}
+
+/// Whether sixteen queues are empty, and a terminal may wait.
+fn begin_empty(queues: &mut Queues) -> bool
+    requires { length queues.old.queues ≡ 16 }
+{
+    queues.is_empty()
+        && queues.oldest(16).is_none()
+        && has_text(queues.take(16).as_ref(), None)
+        && queues.mark(&terminal(1)).is_ok()
+        && queues.busy(&terminal(1))
 }
 
 #[test]
 fn sixteen_groups_begin_empty(rt: HostRuntime) -> Result<(), AllocError> {
     let mut queues = Queues::new(rt.alloc(), 16)?;
-    assert!(rt; queues.is_empty() && queues.oldest(16).is_none() && queues.take(16).is_none());
-    assert!(rt; queues.mark(&terminal(1)).is_ok() && queues.busy(&terminal(1)));
+    assert!(rt; begin_empty(&mut queues));
     Ok(())
 }

@@ -21,8 +21,8 @@ pub(crate) enum Answer {
     Bytes([u8; 4]),
 }
 
-/// Lets a value go, and hands on what was said of it. Of a value with many parts, a function that lets it go itself is dear
-/// to prove.
+/// Lets a value go, and hands on what was said of it. Of a value with many parts, a function that lets it go itself is
+/// dear to prove.
 pub(crate) fn ended<T: Drop, U>(_value: T, said: U) -> U {
     said
 }

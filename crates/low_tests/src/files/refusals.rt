@@ -1,84 +1,87 @@
 //! What is refused, what a failed sync leaves, and what is told of a fault.
-use super::steps::{all_go, ends, fresh, goes, site_in, site_of};
+use super::steps::{Deed, Run, first_other_of, is_removed, is_told};
 use crate::steps::Answer::{Done, Failed, Length};
 use crate::steps::Step::{Reach, Read, Size, Sync, Write};
 use crate::steps::{Answer, Step};
 use fp_files::{Access, Call, Cause, Place};
-use fp_site::Site;
 use fp_source::Part;
-use std::os::unix::fs::symlink;
-use std::test::Fail;
-use std::{fs, io};
+use std::alloc::Global;
+use std::io;
 
-static NO_FILE: [(Step, Answer); 3] = [
+const NO_FILE: &[(Step, Answer)] = &[
     (Size, Failed),
     (Read(0), Failed),
     (Write(0, b"abc"), Failed),
 ];
 
-// What leads where, by links.
-const LINKS: [(&str, &str); 2] = [("/dev/null", "bad/ckpt1"), ("nowhere", "bad/ckpt2")];
-
-#[test]
-fn what_is_no_regular_file_is_refused(rt: HostRuntime) -> Result<(), Fail> {
-    let mut site = site_of(&rt, "bad", "bad/out")?;
-    fs::create_dir(&rt, "bad/log")?;
-    for (target, name) in LINKS {
-        symlink(&rt, target, name)?;
-    }
-    for set in 0..3 {
-        goes(&rt, &mut site, set, &NO_FILE);
-    }
-    assert!(rt; site.sync(3).is_ok());
-    ends(&rt, "bad", &["bad/nowhere"])
-}
-
-#[test]
-fn a_folder_that_is_not_there_is_a_fault(rt: HostRuntime) -> Result<(), Fail> {
-    fresh(&rt, "gone")?;
-    let mut site = site_in(&rt, "gone/nowhere", Access::Change, "gone/out")?;
-    goes(&rt, &mut site, 0, &NO_FILE);
-    fs::remove_dir_all(&rt, "gone")?;
-    Ok(())
-}
-
-// A folder stands at the name of each data set.
-const FOLDERS: [&str; 2] = ["lost/log", "lost/ckpt1"];
-
-static WHILE_THEY_STAND: [(u16, Step, Answer); 4] = [
-    (0, Sync, Failed),
-    (1, Size, Failed),
-    (1, Read(0), Failed),
-    (1, Write(0, b"abc"), Failed),
+static RUNS: [Run; 3] = [
+    // What is no regular file is refused.
+    Run {
+        folder: "bad",
+        before: &[],
+        site: ("bad", Access::Change, "bad/out"),
+        deeds: &[
+            Deed::Make("bad/log"),
+            Deed::Link("/dev/null", "bad/ckpt1"),
+            Deed::Link("nowhere", "bad/ckpt2"),
+            Deed::Goes(0, NO_FILE),
+            Deed::Goes(1, NO_FILE),
+            Deed::Goes(2, NO_FILE),
+            Deed::Goes(3, &[(Sync, Done)]),
+            Deed::IsAbsent("bad/nowhere"),
+        ],
+    },
+    // A folder that isn't there is a fault.
+    Run {
+        folder: "gone",
+        before: &[],
+        site: ("gone/nowhere", Access::Change, "gone/out"),
+        deeds: &[Deed::Goes(0, NO_FILE)],
+    },
+    // A failed sync loses the data set. A folder stands at the name of each, and only the log was synced meanwhile.
+    Run {
+        folder: "lost",
+        before: &[],
+        site: ("lost", Access::Change, "lost/out"),
+        deeds: &[
+            Deed::Make("lost/log"),
+            Deed::Make("lost/ckpt1"),
+            Deed::Goes(0, &[(Sync, Failed)]),
+            Deed::Goes(1, NO_FILE),
+            Deed::Remove("lost/log"),
+            Deed::Remove("lost/ckpt1"),
+            Deed::Goes(
+                0,
+                &[
+                    (Sync, Failed),
+                    (Size, Failed),
+                    (Reach, Failed),
+                    (Read(0), Failed),
+                    (Write(0, b"abc"), Failed),
+                    (Write(5, b""), Failed),
+                ],
+            ),
+            Deed::Goes(1, &[(Size, Length(0)), (Write(0, b"abc"), Done)]),
+            Deed::IsAbsent("lost/log"),
+        ],
+    },
 ];
 
-// Only the log was synced, so it alone is lost.
-static ONCE_THEY_ARE_GONE: [(u16, Step, Answer); 8] = [
-    (0, Sync, Failed),
-    (0, Size, Failed),
-    (0, Reach, Failed),
-    (0, Read(0), Failed),
-    (0, Write(0, b"abc"), Failed),
-    (0, Write(5, b""), Failed),
-    (1, Size, Length(0)),
-    (1, Write(0, b"abc"), Done),
-];
-
 #[test]
-fn a_failed_sync_loses_the_data_set(rt: HostRuntime) -> Result<(), Fail> {
-    let mut site = site_of(&rt, "lost", "lost/out")?;
-    for name in FOLDERS {
-        fs::create_dir(&rt, name)?;
+fn what_is_no_file_or_lost_is_refused(rt: HostRuntime) {
+    for run in &RUNS {
+        let other = first_other_of(&rt, run);
+        assert!(rt;
+            other.is_none() && is_removed(&rt, run.folder),
+            "{} at {other:?}",
+            run.folder
+        );
     }
-    all_go(&rt, &mut site, &WHILE_THEY_STAND);
-    for name in FOLDERS {
-        fs::remove_dir(&rt, name)?;
-    }
-    all_go(&rt, &mut site, &ONCE_THEY_ARE_GONE);
-    ends(&rt, "lost", &["lost/log"])
 }
 
-static LINES: [(Place, Call, &str); 9] = [
+type Line = (Place, Call, &'static str);
+
+static LINES: [Line; 9] = [
     (
         Place::Folder,
         Call::Lock,
@@ -126,19 +129,19 @@ static LINES: [(Place, Call, &str); 9] = [
     ),
 ];
 
+fn lines() -> &'static [Line] {
+    &LINES
+}
+
+// Whether a cause of this place and call is told so.
+fn is_cause(alloc: Global, place: Place, call: Call, wanted: &str) -> bool {
+    let error = io::Error::from_raw_os_error(28);
+    is_told(alloc, &Cause { place, call, error }, "DIR", wanted)
+}
+
 #[test]
-fn a_cause_names_the_file_and_the_call(rt: HostRuntime) -> Result<(), Fail> {
-    for (row, (place, call, want)) in LINES.iter().enumerate() {
-        let error = io::Error::from_raw_os_error(28);
-        let cause = Cause {
-            place: *place,
-            call: *call,
-            error,
-        };
-        assert!(rt;
-            cause.line(rt.alloc(), "DIR")?.as_str() == *want,
-            "row {row}"
-        );
+fn a_cause_names_the_file_and_the_call(rt: HostRuntime) {
+    for (row, (place, call, wanted)) in lines().iter().enumerate() {
+        assert!(rt; is_cause(rt.alloc(), *place, *call, wanted), "row {row}");
     }
-    Ok(())
 }

@@ -3,7 +3,7 @@ use crate::steps::Answer::{Bytes as Four, Done, Length};
 use crate::steps::Step::{Reach, Read, Send, Size, Sync, Write};
 use crate::steps::{Answer, Step, answers, ended, first_wrong};
 use fp_lists::{Bytes, List};
-use fp_site::{Failed, Site};
+use fp_site::Site;
 use memory_site::{MemorySite, Snapshot};
 use std::alloc::{AllocError, Global};
 
@@ -141,15 +141,21 @@ fn comes_out(site: &mut MemorySite, deed: &Deed) -> bool {
         Deed::Sent(text) => site.sent() == text,
         Deed::Counts(faults, shorts) => site.faults() == faults && site.shorts() == shorts,
         Deed::FailsAlone(which) => fails_alone(site, which),
-        Deed::Mixes => {
-            site.write_at(0, 4, &[2; 32]) == Err(Failed) && is_mixed(site.contents(0), 4, 36)
-        }
-        Deed::ReadsOther => {
-            let mut into = [0u8; 2];
-            site.read_at(0, 0, &mut into) == Err(Failed) && into == [0xA5, 0xA5]
-        }
-        Deed::IsShort => site.write_at(0, 1 << 61, &[7]) == Err(Failed),
+        Deed::Mixes => mixes(site),
+        Deed::ReadsOther => reads_other(site),
+        Deed::IsShort => site.write_at(0, 1 << 61, &[7]).is_err(),
     }
+}
+
+// Whether a failed write of 32 bytes at 4 leaves mixed bytes there.
+fn mixes(site: &mut MemorySite) -> bool {
+    site.write_at(0, 4, &[2; 32]).is_err() && is_mixed(site.contents(0), 4, 36)
+}
+
+// Whether a failed read gives bytes that stand nowhere.
+fn reads_other(site: &mut MemorySite) -> bool {
+    let mut into = [0u8; 2];
+    site.read_at(0, 0, &mut into).is_err() && into == [0xA5, 0xA5]
 }
 
 // Whether of all calls this one fails, and no other.

@@ -21,13 +21,6 @@ returns-in-Ok c defs def is good long short of = c.commit.ensures.of defs (recor
   fit = c.in_ok-draft.ensures.fit defs def is long short;
 })
 
-pub returns-in-Err-Memory : goal.returns-in-Err-Memory
-returns-in-Err-Memory c defs def is good long short of = c.commit.ensures.of defs (record {
-  of = of;
-  defined = subst (AllByRecursion IsMsdbDef) (sym is) (good, tt);
-  fit = c.in_ok-draft.ensures.fit defs def is long short;
-})
-
 pub returns-in-Err : goal.returns-in-Err
 returns-in-Err c defs def is good long short of = c.commit.ensures.of defs (record {
   of = of;

@@ -1,6 +1,6 @@
 use Rattle.msdb_store.specs.Store.{IsOf}
-use Rattle.call_tests.proofs.queues.queues_come_to_what_is_wanted.Given as goal
+use Rattle.call_tests.proofs.queues.first_other.Given as goal
 
 -- the store stays one of the definitions
 abbrev pub invariant-loop-place : goal.invariant-loop-place
-invariant-loop-place g l = IsOf l.defs.msdbs l.store
+invariant-loop-place l = IsOf l.defs.msdbs l.store
