@@ -213,39 +213,82 @@ fn is_newest(
     }
 }
 
-/// Three checkpoints in a format, with commits between all their steps: whether each has just what was committed
+/// Puts a segment of each key.
+fn fill(
+    alloc: Global,
+    defs: &Defs,
+    store: &mut MsdbStore,
+    plain: &mut Plain,
+) -> Result<(), VerifyFault>
+    requires rules { AreDefs defs.now }
+    requires of { IsOf defs.now.msdbs store.old }
+    requires few { AllByRecursion (λ msdb. length msdb.segments < 2 ^ 32) store.old.msdbs }
+    ensures of { IsOf defs.now.msdbs store.new }
+    ensures few { AllByRecursion (λ msdb. length msdb.segments < 2 ^ 32) store.new.msdbs }
+{
+    for key in 0..KEYS {
+        change(alloc, defs, store, plain, key, b'A')?;
+    }
+    Ok(())
+}
+
+/// Three checkpoints on a new site, with commits between all their steps: whether each has just what was committed
 /// before it was begun.
-fn each_has_its_own(alloc: Global, defs: &Defs, lasts: Option<&Lasts>) -> Result<bool, VerifyFault>
+fn each_on(
+    alloc: Global,
+    site: &mut MemorySite,
+    defs: &Defs,
+    lasts: Option<&Lasts>,
+    store: &mut MsdbStore,
+    plain: &mut Plain,
+) -> Result<bool, VerifyFault>
     requires rules { AreDefs defs.now }
     requires terminals { AreLasts (terminals_of (option_copied lasts)) }
+    requires of { IsOf defs.now.msdbs store.old }
+    requires few { AllByRecursion (λ msdb. length msdb.segments < 2 ^ 32) store.old.msdbs }
 {
-    let format = if lasts.is_some() { 2 } else { 1 };
-    let mut store = MsdbStore::start(alloc, defs)?;
-    let mut plain = Plain([0; 150]);
-    for key in 0..KEYS {
-        change(alloc, defs, &mut store, &mut plain, key, b'A')?;
-    }
-    let mut site = MemorySite::new(alloc, &[])?;
-    let mut checkpoints = Checkpoints::open(None, 2);
-    if !prepare(&mut site) {
+    if !prepare(site) {
         return Ok(false);
     }
+    let format = if lasts.is_some() { 2 } else { 1 };
+    let mut checkpoints = Checkpoints::open(None, 2);
     for number in 1..4u64 {
-        let noted = plain;
-        checkpoints.begin(alloc, defs, number, number, &store, lasts)?;
-        if !step_between(
-            alloc,
-            &mut site,
-            &mut checkpoints,
-            defs,
-            &mut store,
-            &mut plain,
-        )? || !is_newest(alloc, &mut site, defs, format, number, &noted)
+        let noted = *plain;
+        checkpoints.begin(alloc, defs, number, number, store, lasts)?;
+        if !step_between(alloc, site, &mut checkpoints, defs, store, plain)?
+            || !is_newest(alloc, site, defs, format, number, &noted)
         {
             return Ok(false);
         }
     }
     Ok(true)
+}
+
+/// The same over a store, without segments at first.
+fn each_of(
+    alloc: Global,
+    defs: &Defs,
+    lasts: Option<&Lasts>,
+    store: &mut MsdbStore,
+) -> Result<bool, VerifyFault>
+    requires rules { AreDefs defs.now }
+    requires terminals { AreLasts (terminals_of (option_copied lasts)) }
+    requires of { IsOf defs.now.msdbs store.old }
+    requires few { AllByRecursion (λ msdb. length msdb.segments < 2 ^ 32) store.old.msdbs }
+{
+    let mut plain = Plain([0; 150]);
+    fill(alloc, defs, store, &mut plain)?;
+    let mut site = MemorySite::new(alloc, &[])?;
+    each_on(alloc, &mut site, defs, lasts, store, &mut plain)
+}
+
+/// The same in a format.
+fn each_has_its_own(alloc: Global, defs: &Defs, lasts: Option<&Lasts>) -> Result<bool, VerifyFault>
+    requires rules { AreDefs defs.now }
+    requires terminals { AreLasts (terminals_of (option_copied lasts)) }
+{
+    let mut store = MsdbStore::start(alloc, defs)?;
+    each_of(alloc, defs, lasts, &mut store)
 }
 
 #[test]

@@ -5,12 +5,13 @@ ghost use Rattle.fp_model.specs.WellFormed.{AreDefs};
 ghost use Rattle.std.specs.Option.{option_copied};
 ghost use Rattle.std.specs.Prelude.{◌≤◌};
 
+use crate::groups::failing;
 use crate::systems::{NOTES, defs_of};
 use balancing::Lasts;
 use fp_model::Defs;
 use fp_site::Site;
 use memory_site::MemorySite;
-use msdb_checkpoint::{Checkpoints, CkptFault, Loaded};
+use msdb_checkpoint::{Checkpoints, Loaded};
 use msdb_store::MsdbStore;
 use std::alloc::{AllocError, Global};
 use std::test::Fail;
@@ -71,10 +72,24 @@ fn write_two(
         return Ok(0);
     }
     let mut checkpoints = Checkpoints::open(None, 2);
-    if !write_in_steps(alloc, site, &mut checkpoints, 1, first)? {
+    write_both(alloc, site, &mut checkpoints, first, second)
+}
+
+/// The same of checkpoints that are open.
+fn write_both(
+    alloc: Global,
+    site: &mut MemorySite,
+    checkpoints: &mut Checkpoints,
+    first: &Defs,
+    second: &Defs,
+) -> Result<u64, AllocError>
+    requires first { AreDefs first.now }
+    requires second { AreDefs second.now }
+{
+    if !write_in_steps(alloc, site, checkpoints, 1, first)? {
         return Ok(0);
     }
-    if !write_in_steps(alloc, site, &mut checkpoints, 2, second)? {
+    if !write_in_steps(alloc, site, checkpoints, 2, second)? {
         return Ok(1);
     }
     Ok(2)
@@ -115,19 +130,39 @@ fn keeps(alloc: Global, site: &mut MemorySite, defs: &Defs, sure: u64) -> bool {
     sure <= number && number <= 2 && matches!(Checkpoints::slot_of(site), Ok(set) if set == slot)
 }
 
-/// A stop at this call: whether each of eight images that a crash may leave keeps what was sure.
-fn keeps_at_stop(alloc: Global, stop: u64, first: &Defs, second: &Defs) -> Result<bool, AllocError>
+/// Writes two checkpoints on a site whose calls may fail: whether each of eight images that a crash may leave keeps
+/// what was sure.
+fn keeps_what_is_sure(
+    alloc: Global,
+    site: &mut MemorySite,
+    first: &Defs,
+    second: &Defs,
+) -> Result<bool, AllocError>
     requires first { AreDefs first.now }
     requires second { AreDefs second.now }
 {
-    let mut site = MemorySite::stopping(alloc, stop)?;
-    let sure = write_two(alloc, &mut site, first, second)?;
+    let sure = write_two(alloc, site, first, second)?;
     for choice in 0..8 {
-        if !image_keeps(alloc, &site, choice, first, sure)? {
+        if !image_keeps(alloc, site, choice, first, sure)? {
             return Ok(false);
         }
     }
     Ok(true)
+}
+
+/// The same of a site whose call with this number fails, alone or with all behind it.
+fn keeps_behind(
+    alloc: Global,
+    call: u64,
+    alone: bool,
+    first: &Defs,
+    second: &Defs,
+) -> Result<bool, AllocError>
+    requires first { AreDefs first.now }
+    requires second { AreDefs second.now }
+{
+    let mut site = failing(alloc, call, alone)?;
+    keeps_what_is_sure(alloc, &mut site, first, second)
 }
 
 /// Whether this image that a crash may leave keeps so many checkpoints.
@@ -145,90 +180,47 @@ fn image_keeps(
 /// The two checkpoints make 34 calls.
 const CALLS: u64 = 36;
 
-/// The first stop behind which a crash may lose what was sure.
-fn first_stop_that_loses(
-    alloc: Global,
-    first: &Defs,
-    second: &Defs,
-) -> Result<Option<u64>, AllocError>
-    requires first { AreDefs first.now }
-    requires second { AreDefs second.now }
-{
-    for stop in 0..CALLS {
-        if !keeps_at_stop(alloc, stop, first, second)? {
-            return Ok(Some(stop));
-        }
-    }
-    Ok(None)
-}
-
-#[test]
-fn every_stop_keeps_the_newest(rt: HostRuntime) -> Result<(), Fail> {
-    let first = defs_of(rt.alloc(), &[NOTES, FIRST])?;
-    let second = defs_of(rt.alloc(), &[NOTES, SECOND])?;
-    let lost = first_stop_that_loses(rt.alloc(), &first, &second)?;
-    let stop = lost.unwrap_or(0);
-    assert!(rt; lost.is_none(), "stop {stop}");
-    Ok(())
-}
-
-/// The call with this number fails alone: whether a site whose calls don't fail finds what was sure.
-fn keeps_at_failure(
-    alloc: Global,
-    call: u64,
-    first: &Defs,
-    second: &Defs,
-) -> Result<bool, AllocError>
-    requires first { AreDefs first.now }
-    requires second { AreDefs second.now }
-{
-    let mut site = MemorySite::new(alloc, &[call])?;
-    let sure = write_two(alloc, &mut site, first, second)?;
-    image_keeps(alloc, &site, 1, first, sure)
-}
-
-/// The first call that loses what was sure where it fails alone.
-fn first_failure_that_loses(
-    alloc: Global,
-    first: &Defs,
-    second: &Defs,
-) -> Result<Option<u64>, AllocError>
-    requires first { AreDefs first.now }
-    requires second { AreDefs second.now }
-{
-    for call in 0..CALLS {
-        if !keeps_at_failure(alloc, call, first, second)? {
-            return Ok(Some(call));
-        }
-    }
-    Ok(None)
-}
-
-#[test]
-fn every_failed_call_keeps_the_newest(rt: HostRuntime) -> Result<(), Fail> {
-    let first = defs_of(rt.alloc(), &[NOTES, FIRST])?;
-    let second = defs_of(rt.alloc(), &[NOTES, SECOND])?;
-    let lost = first_failure_that_loses(rt.alloc(), &first, &second)?;
-    let call = lost.unwrap_or(0);
-    assert!(rt; lost.is_none(), "call {call}");
-    Ok(())
-}
-
 /// Whether two checkpoints on a new site are both sure, and the second is the newest.
 fn both_are_sure(alloc: Global, first: &Defs, second: &Defs) -> Result<bool, AllocError>
     requires first { AreDefs first.now }
     requires second { AreDefs second.now }
 {
     let mut site = MemorySite::new(alloc, &[])?;
-    let sure = write_two(alloc, &mut site, first, second)?;
-    Ok(sure == 2 && newest_number(alloc, &mut site, second) == Some(2))
+    let both = matches!(write_two(alloc, &mut site, first, second), Ok(2));
+    Ok(both && newest_number(alloc, &mut site, second) == Some(2))
+}
+
+/// The first call behind whose failure, alone or with all behind it, a crash may lose what was sure, counted twice; or,
+/// behind the last one, where both aren't sure without a failure.
+fn first_loss(alloc: Global, first: &Defs, second: &Defs) -> Result<Option<u64>, AllocError>
+    requires first { AreDefs first.now }
+    requires second { AreDefs second.now }
+{
+    for number in 0..2 * CALLS {
+        if !keeps_behind(alloc, number / 2, number % 2 == 0, first, second)? {
+            return Ok(Some(number));
+        }
+    }
+    if !both_are_sure(alloc, first, second)? {
+        return Ok(Some(2 * CALLS));
+    }
+    Ok(None)
+}
+
+/// The same, behind the first definitions.
+fn first_loss_behind(alloc: Global, first: &Defs) -> Result<Option<u64>, Fail>
+    requires { AreDefs first.now }
+{
+    let second = defs_of(alloc, &[NOTES, SECOND])?;
+    Ok(first_loss(alloc, first, &second)?)
 }
 
 #[test]
-fn without_a_fault_both_are_sure(rt: HostRuntime) -> Result<(), Fail> {
+fn every_stop_and_every_failed_call_keeps_the_newest(rt: HostRuntime) -> Result<(), Fail> {
     let first = defs_of(rt.alloc(), &[NOTES, FIRST])?;
-    let second = defs_of(rt.alloc(), &[NOTES, SECOND])?;
-    assert!(rt; both_are_sure(rt.alloc(), &first, &second)?);
+    let lost = first_loss_behind(rt.alloc(), &first)?;
+    let number = lost.unwrap_or(0);
+    assert!(rt; lost.is_none(), "number {number}");
     Ok(())
 }
 
@@ -243,12 +235,34 @@ const IN_FORMAT_TWO: &[u8] = b"\x01IMSFPCK2\
 \x00\x00\x00\x00\x00\x00\x00\x01\x00\x00\x00\x00\x00\x00\x00\x64\x00\x00\x00\x00\x00\x00\x00\x01\
 \x01\x00\x08\x00\x00\x00\x02A001one A002old \x00\x00\x00\x00\x00\x00\x00\x00";
 
-/// Whether a checkpoint of this format was read, whole and without terminals.
-fn is_in_format(loaded: &Result<Option<Loaded>, CkptFault>, format: u8) -> bool {
-    match loaded {
-        Ok(Some(one)) => one.format == format && is_whole(one) && one.lasts.is_empty(),
+/// Whether the newest checkpoint is of this format, whole and without terminals.
+fn is_in_format(alloc: Global, site: &mut MemorySite, defs: &Defs, format: u8) -> bool {
+    match Checkpoints::newest(alloc, site, defs) {
+        Ok(Some(one)) => one.format == format && is_whole(&one) && one.lasts.is_empty(),
         _ => false,
     }
+}
+
+/// Writes a first checkpoint of the start. Whether it is written.
+fn write_first(
+    alloc: Global,
+    site: &mut MemorySite,
+    defs: &Defs,
+    lasts: Option<&Lasts>,
+) -> Result<bool, AllocError>
+    requires defs { AreDefs defs.now }
+    requires terminals { AreLasts (terminals_of (option_copied lasts)) }
+{
+    if !prepare(site) {
+        return Ok(false);
+    }
+    let store = MsdbStore::start(alloc, defs)?;
+    let mut checkpoints = Checkpoints::open(None, 2);
+    Ok(
+        checkpoints
+            .write(alloc, site, defs, 100, 1, &store, lasts)
+            .is_ok(),
+    )
 }
 
 /// Whether a first checkpoint is written as these bytes, and read back in this format.
@@ -262,25 +276,30 @@ fn comes_back(
     requires defs { AreDefs defs.now }
     requires terminals { AreLasts (terminals_of (option_copied lasts)) }
 {
-    let store = MsdbStore::start(alloc, defs)?;
     let mut site = MemorySite::new(alloc, &[])?;
-    let mut checkpoints = Checkpoints::open(None, 2);
-    if !prepare(&mut site) {
-        return Ok(false);
-    }
-    let written = checkpoints.write(alloc, &mut site, defs, 100, 1, &store, lasts);
-    let is_written = written.is_ok()
+    let is_written = matches!(write_first(alloc, &mut site, defs, lasts), Ok(true))
         && site.contents(1) == bytes
         && site.contents(2) == [0].as_slice();
-    Ok(is_written && is_in_format(&Checkpoints::newest(alloc, &mut site, defs), format))
+    Ok(is_written && is_in_format(alloc, &mut site, defs, format))
+}
+
+/// Whether one with terminals, of which there are none, is written in format 2.
+fn comes_back_with_terminals(alloc: Global, defs: &Defs) -> Result<bool, AllocError>
+    requires { AreDefs defs.now }
+{
+    let none = Lasts::new(alloc)?;
+    comes_back(alloc, defs, Some(&none), 2, IN_FORMAT_TWO)
+}
+
+fn comes_back_in_both(alloc: Global, defs: &Defs) -> Result<bool, AllocError>
+    requires { AreDefs defs.now }
+{
+    Ok(comes_back(alloc, defs, None, 1, IN_FORMAT_ONE)? && comes_back_with_terminals(alloc, defs)?)
 }
 
 #[test]
 fn bytes_are_those_of_the_format(rt: HostRuntime) -> Result<(), Fail> {
     let defs = defs_of(rt.alloc(), &[NOTES, FIRST])?;
-    let none = Lasts::new(rt.alloc())?;
-    for (lasts, format, bytes) in [(None, 1, IN_FORMAT_ONE), (Some(&none), 2, IN_FORMAT_TWO)] {
-        assert!(rt; comes_back(rt.alloc(), &defs, lasts, format, bytes)?);
-    }
+    assert!(rt; comes_back_in_both(rt.alloc(), &defs)?);
     Ok(())
 }

@@ -21,23 +21,49 @@ fn said(alloc: Global, status: &Status) -> Result<String, AllocError> {
     format!(in alloc; "{text}|{number}")
 }
 
-// What a command says over these parts and a new site, and whether it left the site as it was.
-fn refused(
-    alloc: Global,
-    words: &[&str],
-    definitions: &str,
-    scripts: &str,
-    schedule: &str,
-) -> Result<(String, bool), AllocError> {
-    let parts = [
+// Whether this is said of a status.
+fn is_said(alloc: Global, status: &Status, wanted: &str) -> Result<bool, AllocError> {
+    let said = said(alloc, status)?;
+    Ok(said.as_str() == wanted)
+}
+
+fn says(alloc: Global, status: Status, wanted: &str) -> Result<bool, AllocError> {
+    is_said(alloc, &status, wanted)
+}
+
+// The parts that a command reads: definitions, scripts and a schedule, and no messages.
+fn parts_of(alloc: Global, texts: [&str; 3]) -> Result<[Bytes; 4], AllocError> {
+    let [definitions, scripts, schedule] = texts;
+    Ok([
         Bytes::from_slice(alloc, definitions.as_bytes())?,
         Bytes::from_slice(alloc, scripts.as_bytes())?,
         Bytes::from_slice(alloc, schedule.as_bytes())?,
         Bytes::new(alloc),
-    ];
+    ])
+}
+
+// Whether a command says this over definitions, scripts and a schedule, and leaves a site empty.
+fn refuses(
+    alloc: Global,
+    words: &[&str],
+    texts: [&str; 3],
+    site: &mut MemorySite,
+    wanted: &str,
+) -> Result<bool, AllocError> {
+    let parts = parts_of(alloc, texts)?;
+    let status = status_over(alloc, words, parts, &[], site)?;
+    Ok(site.contents(0).is_empty() && says(alloc, status, wanted)?)
+}
+
+// The same of a new site.
+fn is_refused(
+    alloc: Global,
+    words: &[&str],
+    texts: [&str; 3],
+    wanted: &str,
+) -> Result<bool, AllocError> {
     let mut site = MemorySite::new(alloc, &[])?;
-    let status = status_over(alloc, words, parts, &[], &mut site)?;
-    Ok((said(alloc, &status)?, site.contents(0).is_empty()))
+    refuses(alloc, words, texts, &mut site, wanted)
 }
 
 const USAGE: &str =
@@ -80,11 +106,15 @@ fn answer(place: usize) -> Status {
     }
 }
 
+fn says_of_answer(alloc: Global, place: usize, wanted: &str) -> Result<bool, AllocError> {
+    let status = answer(place);
+    is_said(alloc, &status, wanted)
+}
+
 #[test]
 fn answers_of_the_run_have_their_texts(rt: HostRuntime) -> Result<(), Fail> {
     for (place, wanted) in ANSWERS.iter().enumerate() {
-        let said = said(rt.alloc(), &answer(place))?;
-        assert!(rt; said.as_str() == *wanted, "row {place}");
+        assert!(rt; says_of_answer(rt.alloc(), place, wanted)?, "row {place}");
     }
     Ok(())
 }
@@ -111,8 +141,8 @@ static SCRIPTS_FAULTS: [(ScriptFault, &str); 5] = [
 #[test]
 fn faults_of_scripts_have_their_texts(rt: HostRuntime) -> Result<(), Fail> {
     for (place, (fault, wanted)) in SCRIPTS_FAULTS.iter().enumerate() {
-        let said = said(rt.alloc(), &Status::Scripts(*fault))?;
-        assert!(rt; said.as_str() == *wanted, "row {place}");
+        let is_so = says(rt.alloc(), Status::Scripts(*fault), wanted)?;
+        assert!(rt; is_so, "row {place}");
     }
     Ok(())
 }
@@ -143,12 +173,18 @@ fn definitions_fault(alloc: Global, place: usize) -> Result<DefsFault, AllocErro
     })
 }
 
+fn says_of_definitions(alloc: Global, place: usize, wanted: &str) -> Result<bool, AllocError> {
+    let fault = definitions_fault(alloc, place)?;
+    says(alloc, Status::Definitions(fault), wanted)
+}
+
 #[test]
 fn faults_of_definitions_have_their_texts(rt: HostRuntime) -> Result<(), Fail> {
     for (place, wanted) in DEFINITIONS_FAULTS.iter().enumerate() {
-        let fault = definitions_fault(rt.alloc(), place)?;
-        let said = said(rt.alloc(), &Status::Definitions(fault))?;
-        assert!(rt; said.as_str() == *wanted, "row {place}");
+        assert!(rt;
+            says_of_definitions(rt.alloc(), place, wanted)?,
+            "row {place}"
+        );
     }
     Ok(())
 }
@@ -170,8 +206,8 @@ static NO_FORMS: [&[&str]; 11] = [
 #[test]
 fn words_in_no_form_are_usage(rt: HostRuntime) -> Result<(), Fail> {
     for (place, form) in NO_FORMS.iter().enumerate() {
-        let (said, same) = refused(rt.alloc(), form, GOOD, "", "")?;
-        assert!(rt; said.as_str() == USAGE && same, "row {place}");
+        let is_so = is_refused(rt.alloc(), form, [GOOD, "", ""], USAGE)?;
+        assert!(rt; is_so, "row {place}");
     }
     Ok(())
 }
@@ -227,8 +263,9 @@ static REFUSALS: [(&str, &str, &str, &str, &str); 8] = [
 #[test]
 fn the_first_fault_of_the_parts_is_told(rt: HostRuntime) -> Result<(), Fail> {
     for (place, (command, definitions, scripts, schedule, wanted)) in REFUSALS.iter().enumerate() {
-        let (said, same) = refused(rt.alloc(), &[command, "D"], definitions, scripts, schedule)?;
-        assert!(rt; said.as_str() == *wanted && same, "row {place}");
+        let texts = [*definitions, *scripts, *schedule];
+        let is_so = is_refused(rt.alloc(), &[command, "D"], texts, wanted)?;
+        assert!(rt; is_so, "row {place}");
     }
     Ok(())
 }

@@ -1,8 +1,9 @@
 //! Short runs, each worked out by hand from the table of turns: what each event does, what is sent, and what the log
 //! and the databases hold then.
-use crate::systems::{Balances, SCRIPTS, definitions, exits, shown};
+use crate::systems::{Balances, SCRIPTS, definitions, exits, is_shown};
 use crate::telling::dids_text;
 use core_runs::{Fault, Found, Task, find};
+use fp_core::Did;
 use fp_model::Bytes;
 use std::alloc::{AllocError, Global};
 use std::test::Fail;
@@ -441,28 +442,42 @@ group 1 entries 1\n\
     left: (100, 50, 1),
 };
 
-static ROWS: [Row; 20] = [
+// A table for each part above, named in a function of its own.
+static SIDE_BY_SIDE: [Row; 5] = [
     OVERDRAWN,
     OVERDRAWN_AGAIN,
     BOTH_ADD,
     WAITS_FOR_A_HOLD,
     OVERFLOW,
-    LOOKS_BEFORE,
-    LOOKS_BEHIND,
-    ONE_GROUP,
-    SMALL,
-    HELD,
-    UNKNOWN,
-    CROSSWISE,
-    CROSSWISE_AGAIN,
-    INSERTS,
-    ROUTED,
-    DRAINED,
-    SENT_AGAIN,
-    REFUSED_AGAIN,
-    CROSSED_AGAIN,
-    WITHOUT_NUMBERS,
 ];
+
+static LOOKS: [Row; 2] = [LOOKS_BEFORE, LOOKS_BEHIND];
+
+static GROUPS: [Row; 4] = [ONE_GROUP, SMALL, HELD, UNKNOWN];
+
+static LOCKS: [Row; 5] = [CROSSWISE, CROSSWISE_AGAIN, INSERTS, ROUTED, DRAINED];
+
+static NUMBERS: [Row; 4] = [SENT_AGAIN, REFUSED_AGAIN, CROSSED_AGAIN, WITHOUT_NUMBERS];
+
+fn side_by_side() -> &'static [Row] {
+    &SIDE_BY_SIDE
+}
+
+fn looks() -> &'static [Row] {
+    &LOOKS
+}
+
+fn groups() -> &'static [Row] {
+    &GROUPS
+}
+
+fn locks() -> &'static [Row] {
+    &LOCKS
+}
+
+fn numbers() -> &'static [Row] {
+    &NUMBERS
+}
 
 // What is found of the run of a row.
 fn found_of(alloc: Global, row: &Row) -> Result<Found, Fault> {
@@ -471,38 +486,58 @@ fn found_of(alloc: Global, row: &Row) -> Result<Found, Fault> {
 }
 
 // The first part of what was found that isn't as wanted.
-fn first_difference(alloc: Global, found: &Found, row: &Row) -> Result<&'static str, AllocError> {
-    let dids = dids_text(alloc, &found.dids)?;
-    if dids.as_str() != row.dids {
-        return Ok("dids");
+fn first_difference(
+    alloc: Global,
+    found: &Found,
+    row: &Row,
+) -> Result<Option<&'static str>, AllocError> {
+    if !are_told(alloc, &found.dids, row.dids)? {
+        return Ok(Some("dids"));
     }
     if found.sent.as_slice() != row.sent.as_bytes() {
-        return Ok("sent");
+        return Ok(Some("sent"));
     }
     if found.groups.as_slice() != row.log.as_bytes() {
-        return Ok("log");
+        return Ok(Some("log"));
     }
-    let databases = shown(alloc, row.left)?;
-    if found.databases.as_slice() != databases.as_bytes() {
-        return Ok("databases");
+    if !is_shown(alloc, found.databases.as_slice(), row.left)? {
+        return Ok(Some("databases"));
     }
     if found.quiet != row.quiet {
-        return Ok("quiet");
+        return Ok(Some("quiet"));
     }
-    Ok("none")
+    Ok(None)
 }
 
-// Runs a row, and tells the first part that isn't as wanted.
-fn difference(alloc: Global, row: &Row) -> Result<&'static str, Fail> {
+// Whether these are the words for what the steps did.
+fn are_told(alloc: Global, dids: &[Did], wanted: &str) -> Result<bool, AllocError> {
+    let text = dids_text(alloc, dids)?;
+    Ok(text.as_str() == wanted)
+}
+
+// Runs a row, and tells the first part that isn't as wanted: "memory" where there is none to look.
+fn difference(alloc: Global, row: &Row) -> Result<Option<&'static str>, Fault> {
     let found = found_of(alloc, row)?;
-    Ok(first_difference(alloc, &found, row)?)
+    Ok(first_difference(alloc, &found, row).unwrap_or(Some("memory")))
+}
+
+// The first row of a table of which a part isn't as wanted, by its place, and that part.
+fn first_wrong(alloc: Global, rows: &[Row]) -> Result<Option<(usize, &'static str)>, Fault> {
+    for (place, row) in rows.iter().enumerate() {
+        if let Some(part) = difference(alloc, row)? {
+            return Ok(Some((place, part)));
+        }
+    }
+    Ok(None)
 }
 
 #[test]
 fn each_run_comes_to_what_is_wanted(rt: HostRuntime) -> Result<(), Fail> {
-    for (place, row) in ROWS.iter().enumerate() {
-        let told = difference(rt.alloc(), row)?;
-        assert!(rt; told == "none", "row {place}: {told}");
+    let tables = [side_by_side(), looks(), groups(), locks(), numbers()];
+    for (table, rows) in tables.iter().enumerate() {
+        let wrong = first_wrong(rt.alloc(), rows)?;
+        let (place, part) = wrong.unwrap_or((0, "none"));
+        assert!(rt; wrong.is_none(), "table {table}, row {place}: {part}");
     }
     Ok(())
 }

@@ -4,56 +4,44 @@ ghost use Rattle.fp_model.specs.WellFormed.{IsMsdbDef};
 ghost use Rattle.std.specs.List.{AllByRecursion};
 
 use crate::core_rows::{CROSSWISE, OVERDRAWN, Row, SAMPLE, SMALL_GROUPS, WAITS_FOR_A_HOLD};
+use crate::groups::failing;
 use crate::steps::count_lines;
-use crate::systems::{definitions, exits, shown};
+use crate::systems::{definitions, exits, is_shown};
 use core_runs::{Fault, databases_text, find, log_text, run};
 use fp_exits::Exits;
 use fp_model::{Bytes, Defs};
 use memory_site::{MemorySite, Snapshot};
-use std::alloc::{AllocError, Global};
+use std::alloc::Global;
 use std::test::Fail;
 
 /// A run of two transactions that is stopped.
 struct Stopped {
     row: Row,
-    /// What the definitions say before the databases, in place of what the row has.
-    head: &'static str,
     /// The balance of the first account behind no entry, one and two.
     balances: [i32; 3],
 }
 
-static STOPPED: [Stopped; 6] = [
+static STOPPED: [Stopped; 3] = [
     Stopped {
         row: OVERDRAWN,
-        head: SAMPLE,
-        balances: [100, 40, 40],
-    },
-    Stopped {
-        row: OVERDRAWN,
-        head: SMALL_GROUPS,
         balances: [100, 40, 40],
     },
     Stopped {
         row: WAITS_FOR_A_HOLD,
-        head: SAMPLE,
-        balances: [100, 500, 510],
-    },
-    Stopped {
-        row: WAITS_FOR_A_HOLD,
-        head: SMALL_GROUPS,
         balances: [100, 500, 510],
     },
     Stopped {
         row: CROSSWISE,
-        head: SAMPLE,
-        balances: [100, 100, 100],
-    },
-    Stopped {
-        row: CROSSWISE,
-        head: SMALL_GROUPS,
         balances: [100, 100, 100],
     },
 ];
+
+fn stopped_runs() -> &'static [Stopped] {
+    &STOPPED
+}
+
+/// What the definitions of each say before the databases, in place of what its row has.
+const HEADS: [&str; 2] = [SAMPLE, SMALL_GROUPS];
 
 // No run of these makes so many calls.
 const MOST_CALLS: u64 = 40;
@@ -69,18 +57,10 @@ struct Stand {
     groups: Bytes,
 }
 
-// What a run that fails comes to.
-#[derive(Drop)]
-struct Left {
-    site: MemorySite,
-    made: bool,
-    done: bool,
-}
-
 impl Stand {
-    fn new(alloc: Global, stopped: &'static Stopped) -> Result<Stand, Fault> {
+    fn new(alloc: Global, stopped: &'static Stopped, head: &str) -> Result<Stand, Fault> {
         let exits = exits(alloc)?;
-        let definitions = definitions(alloc, stopped.head)?;
+        let definitions = definitions(alloc, head)?;
         let groups = find(alloc, &stopped.row.task(&definitions), &exits)?.groups;
         Ok(Stand {
             alloc,
@@ -91,22 +71,16 @@ impl Stand {
         })
     }
 
-    // The run on a site whose call of this number fails, and with it all behind it, or it alone.
-    fn fail(&self, call: u64, alone: bool) -> Result<Left, Fault> {
-        let mut site = if alone {
-            MemorySite::new(self.alloc, &[call])?
-        } else {
-            MemorySite::stopping(self.alloc, call)?
-        };
+    // Runs on a site whose calls may fail. Whether its log was made, and whether the run is done.
+    fn run_on(&self, site: &mut MemorySite) -> Result<(bool, bool), Fault> {
         let stopped = self.stopped;
         let task = stopped.row.task(&self.definitions);
-        let (made, done) = match run(self.alloc, &task, &self.exits, &mut site) {
-            Ok(_) => (true, true),
-            Err(Fault::Stopped(_)) => (true, false),
-            Err(Fault::NoLog) => (false, false),
-            Err(fault) => return Err(fault),
-        };
-        Ok(Left { site, made, done })
+        match run(self.alloc, &task, &self.exits, site) {
+            Ok(_) => Ok((true, true)),
+            Err(Fault::Stopped(_)) => Ok((true, false)),
+            Err(Fault::NoLog) => Ok((false, false)),
+            Err(fault) => Err(fault),
+        }
     }
 
     // Whether a restart from a snapshot has each transaction that was answered, be it in part, and what was answered
@@ -114,71 +88,172 @@ impl Stand {
     fn is_kept(&self, defs: &Defs, made: bool, snapshot: Snapshot) -> Result<bool, Fault>
         requires { AllByRecursion IsMsdbDef defs.now.msdbs }
     {
-        let stopped = self.stopped;
-        let row = &stopped.row;
-        let is_first = row.sent.as_bytes().starts_with(snapshot.sent.as_slice());
-        let answered = count_lines(snapshot.sent.as_slice());
+        let answered = self.answered(snapshot.sent.as_slice());
         let mut site = MemorySite::from_snapshot(self.alloc, snapshot, &[])?;
-        match log_text(self.alloc, row.numbered, &mut site) {
-            Err(Fault::NoLog) => Ok(!made && answered == 0),
-            log => {
-                let log = log?;
-                Ok(
-                    is_first
-                        && answered <= entries_in(log.as_slice())
-                        && self.is_behind(defs, &mut site, log.as_slice())?,
-                )
-            }
+        self.keeps(defs, made, answered, &mut site)
+    }
+
+    // How many transactions what was sent answers, be it in part. None where it is no first part of all replies.
+    fn answered(&self, sent: &[u8]) -> Option<usize> {
+        let stopped = self.stopped;
+        if stopped.row.sent.as_bytes().starts_with(sent) {
+            Some(count_lines(sent))
+        } else {
+            None
         }
     }
 
-    // Whether the text of a log is a first part of that of the whole run, and the databases of a site are those behind it.
-    fn is_behind(&self, defs: &Defs, site: &mut MemorySite, log: &[u8]) -> Result<bool, Fault>
+    // Whether a restart of a site has so many transactions at least.
+    fn keeps(
+        &self,
+        defs: &Defs,
+        made: bool,
+        answered: Option<usize>,
+        site: &mut MemorySite,
+    ) -> Result<bool, Fault>
         requires { AllByRecursion IsMsdbDef defs.now.msdbs }
     {
         let stopped = self.stopped;
-        let found = databases_text(self.alloc, defs, stopped.row.numbered, site)?;
-        let wanted = self.databases(entries_in(log))?;
-        Ok(self.groups.as_slice().starts_with(log) && found.as_slice() == wanted.as_bytes())
+        match log_text(self.alloc, stopped.row.numbered, site) {
+            Ok(log) => self.is_behind(defs, answered, site, log.as_slice()),
+            Err(Fault::NoLog) => Ok(!made && answered == Some(0)),
+            Err(fault) => Err(fault),
+        }
     }
 
-    // The first of eight images that may be left of a run, from which a restart hasn't what was answered.
-    fn first_lost_of(&self, defs: &Defs, left: &Left) -> Result<Option<u64>, Fault>
+    // Whether the text of a log is a first part of that of the whole run, with so many entries at least, and the
+    // databases of a site are those behind it.
+    fn is_behind(
+        &self,
+        defs: &Defs,
+        answered: Option<usize>,
+        site: &mut MemorySite,
+        log: &[u8],
+    ) -> Result<bool, Fault>
         requires { AllByRecursion IsMsdbDef defs.now.msdbs }
     {
-        for choice in 0..8 {
-            if !self.is_kept(defs, left.made, left.site.snapshot_as(choice)?)? {
-                return Ok(Some(choice));
-            }
-        }
-        Ok(None)
+        let entries = entries_in(log);
+        let has_answered = answered.is_some_and(|count| count <= entries);
+        Ok(
+            has_answered
+                && self.groups.as_slice().starts_with(log)
+                && self.has_databases(defs, site, entries)?,
+        )
     }
 
-    // The first failed or stopped call behind which a restart hasn't what was answered, and the image.
-    fn first_lost(&self) -> Result<Option<(u64, u64)>, Fault> {
-        let defs = core_runs::definitions(self.alloc, self.definitions.as_slice(), &self.exits)?;
-        for number in 0..2 * MOST_CALLS {
-            let left = self.fail(number / 2, number % 2 == 0)?;
-            // Behind the last call nothing fails.
-            if left.site.faults() == 0 {
-                break;
-            }
-            if let Some(choice) = self.first_lost_of(&defs, &left)? {
-                return Ok(Some((number, choice)));
-            }
-        }
-        Ok(None)
-    }
-
-    // The text of the databases behind so many entries.
-    fn databases(&self, entries: usize) -> Result<String, AllocError> {
+    // Whether the databases of a site are those behind so many entries.
+    fn has_databases(
+        &self,
+        defs: &Defs,
+        site: &mut MemorySite,
+        entries: usize,
+    ) -> Result<bool, Fault>
+        requires { AllByRecursion IsMsdbDef defs.now.msdbs }
+    {
         let stopped = self.stopped;
         let balance = match entries {
             0 => stopped.balances[0],
             1 => stopped.balances[1],
             _ => stopped.balances[2],
         };
-        shown(self.alloc, (balance, 50, 1))
+        let found = databases_text(self.alloc, defs, stopped.row.numbered, site)?;
+        Ok(is_shown(self.alloc, found.as_slice(), (balance, 50, 1))?)
+    }
+
+    // The first of eight images that may be left of a run on a site, from which a restart hasn't what was answered, and
+    // whether a call failed.
+    fn first_lost_image(
+        &self,
+        defs: &Defs,
+        site: &mut MemorySite,
+    ) -> Result<(Option<u64>, bool), Fault>
+        requires { AllByRecursion IsMsdbDef defs.now.msdbs }
+    {
+        let (made, _) = self.run_on(site)?;
+        for choice in 0..8 {
+            if !self.is_kept(defs, made, site.snapshot_as(choice)?)? {
+                return Ok((Some(choice), true));
+            }
+        }
+        Ok((None, site.faults() > 0))
+    }
+
+    // The same of a run whose call of this number fails, alone or with all behind it.
+    fn first_lost_behind(
+        &self,
+        defs: &Defs,
+        call: u64,
+        alone: bool,
+    ) -> Result<(Option<u64>, bool), Fault>
+        requires { AllByRecursion IsMsdbDef defs.now.msdbs }
+    {
+        let mut site = failing(self.alloc, call, alone)?;
+        self.first_lost_image(defs, &mut site)
+    }
+
+    // The first failed or stopped call behind which a restart hasn't what was answered, and the image.
+    fn first_lost_of(&self, defs: &Defs) -> Result<Option<(u64, u64)>, Fault>
+        requires { AllByRecursion IsMsdbDef defs.now.msdbs }
+    {
+        for number in 0..2 * MOST_CALLS {
+            let (lost, failed) = self.first_lost_behind(defs, number / 2, number % 2 == 0)?;
+            if let Some(choice) = lost {
+                return Ok(Some((number, choice)));
+            }
+            // Behind the last call nothing fails.
+            if !failed {
+                break;
+            }
+        }
+        Ok(None)
+    }
+
+    // The same, over its own definitions.
+    fn first_lost(&self) -> Result<Option<(u64, u64)>, Fault> {
+        let defs = core_runs::definitions(self.alloc, self.definitions.as_slice(), &self.exits)?;
+        self.first_lost_of(&defs)
+    }
+
+    // Whether a run on a site ends in half of a reply line. None where it is done though a call failed, or isn't where
+    // none did.
+    fn is_torn_on(&self, site: &mut MemorySite) -> Result<Option<bool>, Fault> {
+        let stopped = self.stopped;
+        let (_, done) = self.run_on(site)?;
+        if done != (site.faults() == 0) {
+            return Ok(None);
+        }
+        Ok(Some(is_torn(site.sent(), stopped.row.sent.as_bytes())))
+    }
+
+    // The same of a run that is stopped at this call.
+    fn is_torn_at(&self, call: u64) -> Result<Option<bool>, Fault> {
+        let mut site = failing(self.alloc, call, false)?;
+        self.is_torn_on(&mut site)
+    }
+
+    // How many of the stopped runs end in half of a reply line. None where one is done though a call failed, or isn't
+    // where none did.
+    fn count_torn(&self) -> Result<Option<u64>, Fault> {
+        let mut torn: u64 = 0;
+        for call in 0..MOST_CALLS {
+            match self.is_torn_at(call)? {
+                Some(true) => torn = torn.saturating_add(1),
+                Some(false) => {}
+                None => return Ok(None),
+            }
+        }
+        Ok(Some(torn))
+    }
+
+    // Whether the run is done where no call fails before this one.
+    fn is_done(&self, call: u64) -> Result<bool, Fault> {
+        let mut site = failing(self.alloc, call, false)?;
+        Ok(matches!(self.run_on(&mut site), Ok((_, true))))
+    }
+
+    // Whether each of its two reply lines is one send: two of the stopped runs end in half of one.
+    fn sends_lines(&self) -> Result<bool, Fault> {
+        Ok(self.count_torn()? == Some(2) && self.is_done(MOST_CALLS)?)
     }
 }
 
@@ -201,43 +276,52 @@ fn is_torn(sent: &[u8], replies: &[u8]) -> bool {
             == &line[..line.len().div_ceil(2).min(line.len())])
 }
 
+// What was lost of a run: the run by its place, the number of the failed or stopped call, and the image.
+type Lost = (usize, u64, u64);
+
+fn first_lost_of_run(
+    alloc: Global,
+    stopped: &'static Stopped,
+    head: &str,
+) -> Result<Option<(u64, u64)>, Fault> {
+    let stand = Stand::new(alloc, stopped, head)?;
+    stand.first_lost()
+}
+
+// The first run with such a head behind which a restart hasn't what was answered.
+fn first_lost(alloc: Global, head: &str) -> Result<Option<Lost>, Fault> {
+    for (place, stopped) in stopped_runs().iter().enumerate() {
+        if let Some((number, choice)) = first_lost_of_run(alloc, stopped, head)? {
+            return Ok(Some((place, number, choice)));
+        }
+    }
+    Ok(None)
+}
+
 #[test]
 fn a_restart_has_what_was_answered(rt: HostRuntime) -> Result<(), Fail> {
-    for (place, stopped) in STOPPED.iter().enumerate() {
-        let stand = Stand::new(rt.alloc(), stopped)?;
-        let lost = stand.first_lost()?;
-        let (number, choice) = lost.unwrap_or((0, 0));
+    for head in HEADS {
+        let lost = first_lost(rt.alloc(), head)?;
+        let (place, number, choice) = lost.unwrap_or((0, 0, 0));
         assert!(rt;
             lost.is_none(),
-            "stop {number}, image {choice}, run {place}"
+            "run {place}, stop {number}, image {choice}: {head}"
         );
     }
     Ok(())
 }
 
-// How many of the stopped runs of a stand end in half of a reply line. None where one is done though a call failed, or
-// isn't where none did.
-fn count_torn(stand: &Stand) -> Result<Option<u64>, Fault> {
-    let stopped = stand.stopped;
-    let mut torn: u64 = 0;
-    for call in 0..MOST_CALLS {
-        let Left { site, done, .. } = stand.fail(call, false)?;
-        if done != (site.faults() == 0) {
-            return Ok(None);
-        }
-        if is_torn(site.sent(), stopped.row.sent.as_bytes()) {
-            torn = torn.saturating_add(1);
-        }
-    }
-    Ok(Some(torn))
+fn sends_lines(alloc: Global, stopped: &'static Stopped, head: &str) -> Result<bool, Fault> {
+    let stand = Stand::new(alloc, stopped, head)?;
+    stand.sends_lines()
 }
 
 #[test]
 fn each_reply_line_is_one_send(rt: HostRuntime) -> Result<(), Fail> {
-    for stopped in &STOPPED {
-        let stand = Stand::new(rt.alloc(), stopped)?;
-        assert!(rt; count_torn(&stand)? == Some(2));
-        assert!(rt; stand.fail(MOST_CALLS, false)?.done);
+    for (place, stopped) in stopped_runs().iter().enumerate() {
+        for head in HEADS {
+            assert!(rt; sends_lines(rt.alloc(), stopped, head)?, "run {place}");
+        }
     }
     Ok(())
 }

@@ -1,6 +1,6 @@
 //! Sites of format 1, which are migrated before they take messages with numbers.
 use crate::groups::{front_of, seal_unknown};
-use crate::steps::{Input, NOTHING, run};
+use crate::steps::{Input, NOTHING, outcome, run};
 use crate::systems::ONE_REGION;
 use fp_site::Site;
 use fp_system::Status;
@@ -25,8 +25,7 @@ fn old_site(alloc: Global) -> Result<MemorySite, AllocError> {
 
 // What a command over no messages answers.
 fn done(alloc: Global, command: &str, site: &mut MemorySite) -> Result<Status, AllocError> {
-    let (status, _) = run(alloc, command, ONE_REGION, NOTHING, site)?;
-    Ok(status)
+    outcome(alloc, command, ONE_REGION, NOTHING, site)
 }
 
 // Whether a migration is done, also a second time, and the log is so long then.
@@ -63,35 +62,48 @@ fn is_refused(alloc: Global, site: &mut MemorySite) -> Result<bool, AllocError> 
     Ok(ran == Status::OldFormat && site.contents(0).len() == long)
 }
 
+// Whether a run on a site of format 1 is refused, and behind a migration it is answered.
+fn is_migrated_before_a_run(alloc: Global, site: &mut MemorySite) -> Result<bool, AllocError> {
+    let long = site.contents(0).len();
+    Ok(
+        is_refused(alloc, site)?
+            && is_migrated(alloc, site, long.saturating_add(FORMAT_GROUP))?
+            && is_answered(alloc, site)?,
+    )
+}
+
 #[test]
 fn a_site_of_format_1_is_migrated_before_a_run(rt: HostRuntime) -> Result<(), Fail> {
-    let alloc = rt.alloc();
-    let mut site = old_site(alloc)?;
-    let long = site.contents(0).len();
-    let refused = is_refused(alloc, &mut site)?;
-    let moved = is_migrated(alloc, &mut site, long + FORMAT_GROUP)?;
-    let answered = is_answered(alloc, &mut site)?;
-    assert!(rt; refused && moved && answered);
+    let mut site = old_site(rt.alloc())?;
+    assert!(rt; is_migrated_before_a_run(rt.alloc(), &mut site)?);
     Ok(())
+}
+
+// Whether a site that is made is left as it is by a migration.
+fn is_left(alloc: Global, site: &mut MemorySite) -> Result<bool, AllocError> {
+    let made = done(alloc, "define", site)? == Status::Done;
+    let (long, calls) = (site.contents(0).len(), site.faults());
+    let moved = done(alloc, "migrate", site)? == Status::Done;
+    Ok(made && moved && site.contents(0).len() == long && site.faults() == calls)
 }
 
 #[test]
 fn a_new_site_is_left_by_a_migration(rt: HostRuntime) -> Result<(), Fail> {
-    let alloc = rt.alloc();
-    let mut site = MemorySite::new(alloc, &[])?;
-    let made = done(alloc, "define", &mut site)? == Status::Done;
-    let (long, calls) = (site.contents(0).len(), site.faults());
-    let moved = done(alloc, "migrate", &mut site)? == Status::Done;
-    assert!(rt; made && moved);
-    assert!(rt; site.contents(0).len() == long && site.faults() == calls);
+    let mut site = MemorySite::new(rt.alloc(), &[])?;
+    assert!(rt; is_left(rt.alloc(), &mut site)?);
     Ok(())
 }
 
-// Whether a site that begins as a snapshot is migrated, and then answers the line.
+// Whether a site is migrated, and then answers the line.
+fn answers_behind(alloc: Global, site: &mut MemorySite) -> Result<bool, AllocError> {
+    let moved = done(alloc, "migrate", site)? == Status::Done;
+    Ok(moved && is_answered(alloc, site)?)
+}
+
+// Whether one does that begins as a snapshot.
 fn goes_on(alloc: Global, snapshot: Snapshot) -> Result<bool, AllocError> {
     let mut site = MemorySite::from_snapshot(alloc, snapshot, &[])?;
-    let moved = done(alloc, "migrate", &mut site)? == Status::Done;
-    Ok(moved && is_answered(alloc, &mut site)?)
+    answers_behind(alloc, &mut site)
 }
 
 // Whether each of eight snapshots does.
@@ -103,15 +115,20 @@ fn all_go_on(alloc: Global, site: &MemorySite) -> Result<bool, AllocError> {
     Ok(all)
 }
 
-// Whether a migration one call of which fails leaves a site that goes on, and whether there was such a call.
+// Migrates a site whose calls may fail. Whether it leaves a site that goes on, and whether a call failed.
+fn goes_on_behind(alloc: Global, site: &mut MemorySite) -> Result<(bool, bool), AllocError> {
+    let _ = done(alloc, "migrate", site)?;
+    Ok((all_go_on(alloc, site)?, site.faults() > 0))
+}
+
+// The same of a site one call of which fails.
 fn goes_on_without(
     alloc: Global,
     old: &MemorySite,
     failing: u64,
 ) -> Result<(bool, bool), AllocError> {
     let mut site = MemorySite::from_snapshot(alloc, old.snapshot_as(0)?, &[failing])?;
-    let _ = done(alloc, "migrate", &mut site)?;
-    Ok((all_go_on(alloc, &site)?, site.faults() > 0))
+    goes_on_behind(alloc, &mut site)
 }
 
 #[test]
@@ -128,15 +145,17 @@ fn each_call_of_a_migration_may_fail(rt: HostRuntime) -> Result<(), Fail> {
     Ok(())
 }
 
-// Whether a migration that stops at this call leaves a site that goes on, and whether it stopped. None where the old log
-// wasn't written by then.
-fn goes_on_behind(alloc: Global, after: u64) -> Result<Option<(bool, bool)>, AllocError> {
+// The same of a site that is stopped at this call. None where the old log wasn't written by then.
+fn goes_on_stopped(alloc: Global, after: u64) -> Result<Option<(bool, bool)>, AllocError> {
     let mut site = MemorySite::stopping(alloc, after)?;
-    if !write_old(alloc, &mut site)? {
+    old_goes_on(alloc, &mut site)
+}
+
+fn old_goes_on(alloc: Global, site: &mut MemorySite) -> Result<Option<(bool, bool)>, AllocError> {
+    if !write_old(alloc, site)? {
         return Ok(None);
     }
-    let _ = done(alloc, "migrate", &mut site)?;
-    Ok(Some((all_go_on(alloc, &site)?, site.faults() > 0)))
+    Ok(Some(goes_on_behind(alloc, site)?))
 }
 
 // The log is opened by 2 calls of a migration, and its group sealed by 4.
@@ -144,7 +163,7 @@ fn goes_on_behind(alloc: Global, after: u64) -> Result<Option<(bool, bool)>, All
 fn a_migration_may_be_stopped_at_each_call(rt: HostRuntime) -> Result<(), Fail> {
     let mut stops: u32 = 0;
     for after in 0..50 {
-        if let Some((goes_on, stopped)) = goes_on_behind(rt.alloc(), after)? {
+        if let Some((goes_on, stopped)) = goes_on_stopped(rt.alloc(), after)? {
             assert!(rt; goes_on, "stopped at {after}");
             if !stopped {
                 break;

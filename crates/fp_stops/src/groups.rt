@@ -31,7 +31,7 @@ pub(crate) fn front_of(alloc: Global, defs: &[u8], scripts: &[u8]) -> Result<Fro
 }
 
 // An entry that says which it is, of a line that is unknown.
-pub(crate) fn unknown(alloc: Global, from: u64, line: &[u8]) -> Result<Entry, AllocError>
+fn unknown(alloc: Global, from: u64, line: &[u8]) -> Result<Entry, AllocError>
     requires { length line.now < 2 ^ 16 }
     ensures rules { IfOk result KeepsRules }
     ensures fits { IfOk result FitsEntry }
@@ -60,16 +60,51 @@ pub(crate) fn seal_unknown(
     if Log::make(alloc, site, front).is_err() {
         return Ok(0);
     }
-    let Ok(mut log) = Log::open(alloc, site, front) else {
-        return Ok(0);
-    };
+    match Log::open(alloc, site, front) {
+        Ok(mut log) => seal_each(alloc, site, &mut log, line, count),
+        Err(_) => Ok(0),
+    }
+}
+
+// Seals so many groups of such an entry each in an open log, until a call fails. How many were sealed.
+fn seal_each(
+    alloc: Global,
+    site: &mut MemorySite,
+    log: &mut Log,
+    line: &[u8],
+    count: u64,
+) -> Result<u64, AllocError>
+    requires { length line.now < 2 ^ 16 }
+{
     for from in 0..count {
-        log.append(&unknown(alloc, from, line)?)?;
+        append_unknown(alloc, log, from, line)?;
         if log.seal(site, 1).is_err() {
             return Ok(from);
         }
     }
     Ok(count)
+}
+
+// Appends such an entry to a log, and answers its place.
+pub(crate) fn append_unknown(
+    alloc: Global,
+    log: &mut Log,
+    from: u64,
+    line: &[u8],
+) -> Result<u64, AllocError>
+    requires { length line.now < 2 ^ 16 }
+{
+    let entry = unknown(alloc, from, line)?;
+    log.append(&entry)
+}
+
+// A new site whose call with this number fails, alone or with all behind it.
+pub(crate) fn failing(alloc: Global, call: u64, alone: bool) -> Result<MemorySite, AllocError> {
+    if alone {
+        MemorySite::new(alloc, &[call])
+    } else {
+        MemorySite::stopping(alloc, call)
+    }
 }
 
 // ---- logs that are made anew
@@ -85,8 +120,8 @@ pub(crate) fn stopping_copy(
     MemorySite::from_snapshot(alloc, old.snapshot_as(0)?, &[after, after + 1])
 }
 
-// Whether a crash may leave the old log, none that is open or the new one of a making over a log with groups that stopped
-// behind so many calls. A new log is made by nine there.
+// Whether a crash may leave the old log, none that is open or the new one of a making over a log with groups that
+// stopped behind so many calls. A new log is made by nine there.
 pub(crate) fn may_be_left(after: u64, is_old: bool, is_none: bool, is_new: bool) -> bool {
     (is_old && after < 5) || (is_none && after >= 3 && after < 9) || (is_new && after >= 7)
 }

@@ -1,5 +1,5 @@
-//! Tests over sites in memory: logs, restarts, checkpoints, the turns of the core and whole commands, also with each call
-//! failing and stopped at each call.
+//! Tests over sites in memory: logs, restarts, checkpoints, the turns of the core and whole commands, also with each
+//! call failing and stopped at each call.
 #![tactic(auto)]
 
 #[cfg(test)]

@@ -3,7 +3,7 @@ ghost use Rattle.fp_model.specs.LogText.{FitsFront};
 ghost use Rattle.log_groups.specs.Images.{as_front};
 ghost use Rattle.std.specs.Prelude.{◌<◌, IfOk};
 
-use crate::groups::{front_of, may_be_left, seal_unknown, stopping_copy, unknown};
+use crate::groups::{append_unknown, front_of, may_be_left, seal_unknown, stopping_copy};
 use fp_site::Site;
 use log_groups::{Front, Log, LogFault};
 use memory_site::{MemorySite, Snapshot};
@@ -22,23 +22,31 @@ fn seal_three(alloc: Global, site: &mut MemorySite) -> Result<u64, AllocError> {
     seal_unknown(alloc, site, &front, b"", 3)
 }
 
-// A new site with a log of three groups, and how many of them were sealed.
-fn three_sealed(alloc: Global) -> Result<(MemorySite, u64), AllocError> {
-    let mut site = MemorySite::new(alloc, &[])?;
-    let sealed = seal_three(alloc, &mut site)?;
-    Ok((site, sealed))
+// Makes a log.
+fn make(alloc: Global, site: &mut MemorySite) -> Result<(), LogFault> {
+    let front = front(alloc)?;
+    Log::make(alloc, site, &front)
+}
+
+// The log of a site, open.
+fn open(alloc: Global, site: &mut MemorySite) -> Result<Log, LogFault> {
+    let front = front(alloc)?;
+    Log::open(alloc, site, &front)
 }
 
 // How many groups a site has after a crash, each of the entry that it should have. None where its log isn't open.
 fn read_back(alloc: Global, snapshot: Snapshot) -> Result<Option<u64>, LogFault> {
-    let front = front(alloc)?;
     let mut site = MemorySite::from_snapshot(alloc, snapshot, &[])?;
-    let mut log = match Log::open(alloc, &mut site, &front) {
-        Ok(log) => log,
-        Err(LogFault::Foreign) => return Ok(None),
-        Err(fault) => return Err(fault),
-    };
-    Ok(Some(groups_of(&mut log, &mut site)?))
+    groups_in(alloc, &mut site)
+}
+
+// How many groups a site has, each of the entry that it should have. None where its log isn't open.
+fn groups_in(alloc: Global, site: &mut MemorySite) -> Result<Option<u64>, LogFault> {
+    match open(alloc, site) {
+        Ok(mut log) => Ok(Some(groups_of(&mut log, site)?)),
+        Err(LogFault::Foreign) => Ok(None),
+        Err(fault) => Err(fault),
+    }
 }
 
 // How many groups a log has, each of the entry that it should have.
@@ -69,15 +77,25 @@ fn behind_group(
     }
 }
 
-// Whether every snapshot of a site reads back as so many groups, or, with None, as no open log.
-fn is_read_back(alloc: Global, site: &MemorySite, wanted: Option<u64>) -> Result<bool, AllocError> {
-    for choice in 0..8 {
+// Whether each of the first snapshots of a site reads back as so many groups, or, with None, as no open log.
+fn are_read_back(
+    alloc: Global,
+    site: &MemorySite,
+    choices: u64,
+    wanted: Option<u64>,
+) -> Result<bool, AllocError> {
+    for choice in 0..choices {
         let snapshot = site.snapshot_as(choice)?;
         if read_back(alloc, snapshot) != Ok(wanted) {
             return Ok(false);
         }
     }
     Ok(true)
+}
+
+// Whether each of eight snapshots does.
+fn is_read_back(alloc: Global, site: &MemorySite, wanted: Option<u64>) -> Result<bool, AllocError> {
+    are_read_back(alloc, site, 8, wanted)
 }
 
 // Whether a log of which so many groups were sealed, by a site that stopped behind so many calls, may read back so.
@@ -89,34 +107,49 @@ fn may_be_read_back(after: u64, sealed: u64, found: Result<Option<u64>, LogFault
     }
 }
 
+// Seals three groups on a site that stops behind so many calls: the first of eight images that doesn't read back so.
+fn first_lost_image(
+    alloc: Global,
+    site: &mut MemorySite,
+    after: u64,
+) -> Result<Option<u64>, AllocError> {
+    let sealed = seal_three(alloc, site)?;
+    for choice in 0..8 {
+        let found = read_back(alloc, site.snapshot_as(choice)?);
+        if !may_be_read_back(after, sealed, found) {
+            return Ok(Some(choice));
+        }
+    }
+    Ok(None)
+}
+
+fn first_lost_behind(alloc: Global, after: u64) -> Result<Option<u64>, AllocError> {
+    let mut site = MemorySite::stopping(alloc, after)?;
+    first_lost_image(alloc, &mut site, after)
+}
+
 // The log is made by 8 calls, opened by 2, and each group sealed by 4.
 #[test]
 fn after_each_stop_every_sealed_group_is_read_back(rt: HostRuntime) -> Result<(), Fail> {
-    let alloc = rt.alloc();
     for after in 0..24 {
-        let mut site = MemorySite::stopping(alloc, after)?;
-        let sealed = seal_three(alloc, &mut site)?;
-        for choice in 0..8 {
-            let found = read_back(alloc, site.snapshot_as(choice)?);
-            assert!(rt;
-                may_be_read_back(after, sealed, found),
-                "stopped at {after}, image {choice}"
-            );
-        }
+        let lost = first_lost_behind(rt.alloc(), after)?;
+        let choice = lost.unwrap_or(0);
+        assert!(rt; lost.is_none(), "stopped at {after}, image {choice}");
     }
     Ok(())
+}
+
+// Whether none of three groups is sealed by a site that stops behind so many calls, nor read back.
+fn is_left_closed(alloc: Global, after: u64) -> Result<bool, AllocError> {
+    let mut site = MemorySite::stopping(alloc, after)?;
+    let none = matches!(seal_three(alloc, &mut site), Ok(0));
+    Ok(none && matches!(are_read_back(alloc, &site, 2, Some(0)), Ok(true)))
 }
 
 // A stop behind the body's sync leaves the group behind a closed gate.
 #[test]
 fn before_its_gate_is_written_no_group_is_read_back(rt: HostRuntime) -> Result<(), Fail> {
-    let alloc = rt.alloc();
-    let mut site = MemorySite::stopping(alloc, 12)?;
-    assert!(rt; seal_three(alloc, &mut site)? == 0);
-    for choice in 0..2 {
-        let snapshot = site.snapshot_as(choice)?;
-        assert!(rt; read_back(alloc, snapshot) == Ok(Some(0)), "image {choice}");
-    }
+    assert!(rt; is_left_closed(rt.alloc(), 12)?);
     Ok(())
 }
 
@@ -131,43 +164,14 @@ fn write_third_body(alloc: Global, site: &mut MemorySite) -> Result<bool, AllocE
     Ok(site.write_at(0, 133, &group).is_ok() && site.sync(0).is_ok())
 }
 
-// A body on the disk counts only behind an open gate.
-#[test]
-fn a_body_behind_a_closed_gate_is_not_read_back(rt: HostRuntime) -> Result<(), Fail> {
-    let alloc = rt.alloc();
-    let (mut site, sealed) = three_sealed(alloc)?;
-    assert!(rt; sealed == 3);
-    assert!(rt; write_third_body(alloc, &mut site)?);
-    assert!(rt; is_read_back(alloc, &site, Some(3))?);
-    Ok(())
-}
-
-// Makes a log anew over the contents of a site, where the call with this number and the next one fail. The site, and
-// whether the log was made.
-fn made_anew(alloc: Global, old: &MemorySite, after: u64) -> Result<(MemorySite, bool), AllocError>
-    requires { after < 100 }
-{
-    let front = front(alloc)?;
-    let mut site = stopping_copy(alloc, old, after)?;
-    let made = Log::make(alloc, &mut site, &front).is_ok();
-    Ok((site, made))
-}
-
-// Whether a making that stops behind so many calls is done, and the first of eight images that it may not leave.
-fn stopped_anew(
-    alloc: Global,
-    old: &MemorySite,
-    after: u64,
-) -> Result<(bool, Option<u64>), AllocError>
-    requires { after < 100 }
-{
-    let (site, made) = made_anew(alloc, old, after)?;
+// Whether each of eight images is as a making that stops behind so many calls may leave it.
+fn are_left_anew(alloc: Global, site: &MemorySite, after: u64) -> Result<bool, AllocError> {
     for choice in 0..8 {
         if !is_left_anew(alloc, site.snapshot_as(choice)?, after) {
-            return Ok((made, Some(choice)));
+            return Ok(false);
         }
     }
-    Ok((made, None))
+    Ok(true)
 }
 
 // Whether a making that stops behind so many calls may leave this.
@@ -178,41 +182,78 @@ fn is_left_anew(alloc: Global, snapshot: Snapshot, after: u64) -> bool {
     may_be_left(after, is_old, is_none, found == Ok(Some(0)))
 }
 
-// A log of three groups is made anew by 9 calls. Until then it is as it was, or isn't open.
-#[test]
-fn a_log_made_anew_is_the_old_one_or_none_or_the_new_one(rt: HostRuntime) -> Result<(), Fail> {
-    let alloc = rt.alloc();
-    let (old, sealed) = three_sealed(alloc)?;
-    assert!(rt; sealed == 3);
-    for after in 0..10 {
-        let (made, wrong) = stopped_anew(alloc, &old, after)?;
-        let image = wrong.unwrap_or(0);
-        assert!(rt; made == (after == 9), "stopped at {after}");
-        assert!(rt; wrong.is_none(), "stopped at {after}, image {image}");
+// Makes a log anew over the contents of a site, where the call with this number and the next one fail. Whether it is
+// made where no call fails alone, and what is left is as it may be.
+fn leaves_well(alloc: Global, old: &MemorySite, after: u64) -> Result<bool, AllocError>
+    requires { after < 100 }
+{
+    let mut site = stopping_copy(alloc, old, after)?;
+    let made = make(alloc, &mut site).is_ok();
+    Ok(made == (after == 9) && matches!(are_left_anew(alloc, &site, after), Ok(true)))
+}
+
+// What is asked of a new site with a log of three groups.
+#[derive(Clone, Copy)]
+enum Asked {
+    // A body on the disk counts only behind an open gate.
+    BodyBehindClosedGate,
+    // The log is made anew by 9 calls. Until then it is as it was, or isn't open.
+    StoppedAnew(u64),
+    // A log that is shut is not opened, also where it is shut twice.
+    Shut,
+    // It is made anew.
+    ShutAndMade,
+}
+
+static ASKED: [Asked; 13] = [
+    Asked::BodyBehindClosedGate,
+    Asked::Shut,
+    Asked::ShutAndMade,
+    Asked::StoppedAnew(0),
+    Asked::StoppedAnew(1),
+    Asked::StoppedAnew(2),
+    Asked::StoppedAnew(3),
+    Asked::StoppedAnew(4),
+    Asked::StoppedAnew(5),
+    Asked::StoppedAnew(6),
+    Asked::StoppedAnew(7),
+    Asked::StoppedAnew(8),
+    Asked::StoppedAnew(9),
+];
+
+// Whether a site answers so.
+fn answers(alloc: Global, site: &mut MemorySite, asked: Asked) -> Result<bool, AllocError> {
+    match asked {
+        Asked::BodyBehindClosedGate => Ok(
+            write_third_body(alloc, site)? && is_read_back(alloc, site, Some(3))?,
+        ),
+        Asked::StoppedAnew(after) => leaves_well(alloc, site, after % 100),
+        Asked::Shut => Ok(is_shut(alloc, site)? && is_shut(alloc, site)?),
+        Asked::ShutAndMade => Ok(
+            is_shut(alloc, site)?
+                && make(alloc, site).is_ok()
+                && is_read_back(alloc, site, Some(0))?,
+        ),
     }
-    Ok(())
+}
+
+// Shuts a log. Whether it was shut, and isn't opened.
+fn is_shut(alloc: Global, site: &mut MemorySite) -> Result<bool, AllocError> {
+    Ok(Log::shut(site).is_ok() && is_read_back(alloc, site, None)?)
+}
+
+// Whether a new site with a log of three groups answers so.
+fn three_answer(alloc: Global, asked: Asked) -> Result<bool, AllocError> {
+    let mut site = MemorySite::new(alloc, &[])?;
+    let sealed = matches!(seal_three(alloc, &mut site), Ok(3));
+    Ok(sealed && matches!(answers(alloc, &mut site, asked), Ok(true)))
 }
 
 #[test]
-fn a_log_that_is_shut_is_not_opened(rt: HostRuntime) -> Result<(), Fail> {
-    let alloc = rt.alloc();
-    let (mut site, sealed) = three_sealed(alloc)?;
-    assert!(rt; sealed == 3);
-    for _ in 0..2 {
-        assert!(rt; Log::shut(&mut site).is_ok());
-        assert!(rt; is_read_back(alloc, &site, None)?);
+fn a_log_of_three_groups_answers(rt: HostRuntime) -> Result<(), Fail> {
+    for (place, asked) in ASKED.iter().enumerate() {
+        assert!(rt; three_answer(rt.alloc(), *asked)?, "asked {place}");
     }
-    Ok(())
-}
-
-#[test]
-fn a_log_that_is_shut_is_made_anew(rt: HostRuntime) -> Result<(), Fail> {
-    let alloc = rt.alloc();
-    let (mut site, _) = three_sealed(alloc)?;
-    assert!(rt; Log::shut(&mut site).is_ok());
-    let front = front(alloc)?;
-    assert!(rt; Log::make(alloc, &mut site, &front).is_ok());
-    assert!(rt; is_read_back(alloc, &site, Some(0))?);
     Ok(())
 }
 
@@ -240,13 +281,19 @@ struct InUse {
     spare: u64,
 }
 
+// A new log, open.
+fn new_log(alloc: Global, site: &mut MemorySite) -> Result<Log, LogFault> {
+    make(alloc, site)?;
+    let front = front(alloc)?;
+    let mut log = Log::open(alloc, site, &front)?;
+    log.end_at(18, 0, 1);
+    Ok(log)
+}
+
 impl InUse {
     fn new(alloc: Global) -> Result<InUse, LogFault> {
         let mut site = MemorySite::new(alloc, &[])?;
-        let front = front(alloc)?;
-        Log::make(alloc, &mut site, &front)?;
-        let mut log = Log::open(alloc, &mut site, &front)?;
-        log.end_at(18, 0, 1);
+        let log = new_log(alloc, &mut site)?;
         Ok(InUse {
             site,
             log,
@@ -275,11 +322,21 @@ impl InUse {
     fn take(&mut self, alloc: Global, step: &Step) -> Result<bool, AllocError> {
         match *step {
             Step::Reserve(bytes) => self.reserve(bytes),
-            Step::Append(place) => Ok(self.log.append(&unknown(alloc, place, b"")?)? == place),
+            Step::Append(place) => Ok(append_unknown(alloc, &mut self.log, place, b"")? == place),
             Step::Uses(bytes) => Ok(self.spare.checked_sub(self.log.spare()) == Some(bytes)),
             Step::Seal(most, count) => Ok(self.seal(most, count)),
             Step::Knows(sealed, count, gate) => Ok(self.knows() == (sealed, count, gate)),
         }
+    }
+
+    // The first step that doesn't come to what is wanted, by its place.
+    fn wrong_step(&mut self, alloc: Global, steps: &[Step]) -> Result<Option<usize>, LogFault> {
+        for (place, step) in steps.iter().enumerate() {
+            if !self.take(alloc, step)? {
+                return Ok(Some(place));
+            }
+        }
+        Ok(None)
     }
 }
 
@@ -315,13 +372,18 @@ static LOGS_IN_USE: [&[Step]; 2] = [
     ],
 ];
 
+// The first step of a new log that doesn't come to what is wanted, by its place.
+fn wrong_step(alloc: Global, steps: &[Step]) -> Result<Option<usize>, LogFault> {
+    let mut log = InUse::new(alloc)?;
+    log.wrong_step(alloc, steps)
+}
+
 #[test]
 fn each_step_of_a_log_in_use_comes_to_what_is_wanted(rt: HostRuntime) -> Result<(), Fail> {
     for (row, steps) in LOGS_IN_USE.iter().enumerate() {
-        let mut log = InUse::new(rt.alloc())?;
-        for (place, step) in steps.iter().enumerate() {
-            assert!(rt; log.take(rt.alloc(), step)?, "log {row} at {place}");
-        }
+        let wrong = wrong_step(rt.alloc(), steps)?;
+        let place = wrong.unwrap_or(0);
+        assert!(rt; wrong.is_none(), "log {row} at {place}");
     }
     Ok(())
 }

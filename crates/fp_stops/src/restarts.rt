@@ -3,7 +3,7 @@ ghost use Rattle.fp_model.specs.LogText.{FitsEntry, FitsFront, FitsItem, KeepsRu
 ghost use Rattle.fp_model.specs.WellFormed.{AreDefs};
 ghost use Rattle.memory_site.specs.Memory.{memory_reads};
 ghost use Rattle.log_groups.specs.Images.{as_front};
-ghost use Rattle.std.specs.Prelude.{◌≡◌, ◌+◌, ◌-◌, ◌<◌, ◌^◌, IfOk};
+ghost use Rattle.std.specs.Prelude.{◌≡◌, ◌+◌, ◌-◌, ◌<◌, ◌≤◌, ◌^◌, IfOk, length};
 
 use crate::groups::{front_of, may_be_left, stopping_copy};
 use crate::systems::{NOTES, defs_of};
@@ -48,7 +48,40 @@ fn front(alloc: Global, scripts: u8) -> Result<Front, AllocError>
     front_of(alloc, b"D", &[scripts])
 }
 
-fn segment(alloc: Global, msdb: u8, key: &[u8; 4], bytes: &[u8; 8]) -> Result<Item, AllocError>
+// The definitions of the accounts,
+fn accounts(alloc: Global) -> Result<Defs, Fail>
+    ensures { IfOk result AreDefs }
+{
+    defs_of(alloc, &[NOTES, LOADED])
+}
+
+// and with them of the orders.
+fn accounts_and_orders(alloc: Global) -> Result<Defs, Fail>
+    ensures { IfOk result AreDefs }
+{
+    defs_of(alloc, &[NOTES, LOADED, ORDERS])
+}
+
+// What a group has.
+#[derive(Clone, Copy)]
+enum Part {
+    // A segment of a database, with its key.
+    Segment(u8, [u8; 4], [u8; 8]),
+    // A whole interval of a data set.
+    Image(u16, u64),
+    // Its last four bytes.
+    Range(u16, u64),
+}
+
+const PAID: Part = Part::Segment(0, *b"A001", *b"A001paid");
+
+const OPEN: Part = Part::Segment(0, *b"B002", *b"B002open");
+
+const SHUT: Part = Part::Segment(0, *b"B002", *b"B002shut");
+
+fn segment(alloc: Global, msdb: u8, key: &[u8], bytes: &[u8]) -> Result<Item, AllocError>
+    requires key { length key.now ≡ 4 }
+    requires bytes { length bytes.now ≡ 8 }
     ensures { IfOk result FitsItem }
 {
     Ok(Item::Segment {
@@ -56,6 +89,16 @@ fn segment(alloc: Global, msdb: u8, key: &[u8; 4], bytes: &[u8; 8]) -> Result<It
         key: Bytes::from_slice(alloc, key)?,
         bytes: Bytes::from_slice(alloc, bytes)?,
     })
+}
+
+fn item(alloc: Global, part: Part) -> Result<Item, AllocError>
+    ensures { IfOk result FitsItem }
+{
+    match part {
+        Part::Segment(msdb, key, bytes) => segment(alloc, msdb, &key, &bytes),
+        Part::Image(set, ci) => image(alloc, set, ci),
+        Part::Range(set, ci) => range(alloc, set, ci),
+    }
 }
 
 fn image(alloc: Global, set: u16, ci: u64) -> Result<Item, AllocError>
@@ -68,7 +111,6 @@ fn image(alloc: Global, set: u16, ci: u64) -> Result<Item, AllocError>
     })
 }
 
-// The last four bytes of an interval.
 fn range(alloc: Global, set: u16, ci: u64) -> Result<Item, AllocError>
     ensures { IfOk result FitsItem }
 {
@@ -98,11 +140,22 @@ fn entry(alloc: Global, item: Item) -> Result<Entry, AllocError>
     })
 }
 
-// Writes a group of an entry with this item.
-fn seal(alloc: Global, log: &mut Log, site: &mut MemorySite, item: Item) -> Result<(), RestartFault>
-    requires { FitsItem item }
+// Writes a group of an entry with this part.
+fn seal(
+    alloc: Global,
+    log: &mut Log,
+    site: &mut MemorySite,
+    part: Part,
+) -> Result<(), RestartFault> {
+    let entry = entry(alloc, item(alloc, part)?)?;
+    seal_entry(log, site, &entry)
+}
+
+fn seal_entry(log: &mut Log, site: &mut MemorySite, entry: &Entry) -> Result<(), RestartFault>
+    requires rules { KeepsRules entry.now }
+    requires fits { FitsEntry entry.now }
 {
-    log.append(&entry(alloc, item)?)?;
+    log.append(entry)?;
     match log.seal(site, 1) {
         Ok(_) => Ok(()),
         Err(_) => Err(RestartFault::SiteFault),
@@ -122,30 +175,35 @@ fn new_log(alloc: Global, defs: &Defs, site: &mut MemorySite) -> Result<Log, Res
     Ok(Log::open(alloc, site, &front)?)
 }
 
-// A new log with a group of each item. Where the second one's gate stands.
+// A new log with a group of each part. Where the second one's gate stands.
 fn write_both(
     alloc: Global,
     defs: &Defs,
     site: &mut MemorySite,
-    first: Item,
-    second: Item,
-) -> Result<u64, RestartFault>
-    requires first { FitsItem first }
-    requires second { FitsItem second }
-{
+    first: Part,
+    second: Part,
+) -> Result<u64, RestartFault> {
     let mut log = new_log(alloc, defs, site)?;
-    seal(alloc, &mut log, site, first)?;
+    seal_both(alloc, &mut log, site, first, second)
+}
+
+fn seal_both(
+    alloc: Global,
+    log: &mut Log,
+    site: &mut MemorySite,
+    first: Part,
+    second: Part,
+) -> Result<u64, RestartFault> {
+    seal(alloc, log, site, first)?;
     let at = log.gate();
-    seal(alloc, &mut log, site, second)?;
+    seal(alloc, log, site, second)?;
     Ok(at)
 }
 
 // A new site with a log of two groups. They change the segment that was loaded, and put one beside it.
 fn two_written(alloc: Global, defs: &Defs) -> Result<MemorySite, RestartFault> {
     let mut site = MemorySite::new(alloc, &[])?;
-    let paid = segment(alloc, 0, b"A001", b"A001paid")?;
-    let open = segment(alloc, 0, b"B002", b"B002open")?;
-    write_both(alloc, defs, &mut site, paid, open)?;
+    write_both(alloc, defs, &mut site, PAID, OPEN)?;
     Ok(site)
 }
 
@@ -160,6 +218,19 @@ fn segments_of(alloc: Global, db: &Db) -> Result<Bytes, AllocError> {
     Ok(text)
 }
 
+// What a restart gives.
+fn restarted(
+    alloc: Global,
+    defs: &Defs,
+    scripts: u8,
+    site: &mut MemorySite,
+) -> Result<Parts, RestartFault>
+    requires { AreDefs defs.now }
+{
+    let front = front(alloc, scripts)?;
+    restart(alloc, defs, &front, site)
+}
+
 // The number of entries that a restart finds, and the segments of its state.
 fn read(
     alloc: Global,
@@ -169,21 +240,19 @@ fn read(
 ) -> Result<(u64, Bytes), RestartFault>
     requires { AreDefs defs.now }
 {
-    let front = front(alloc, scripts)?;
-    let mut parts = restart(alloc, defs, &front, site)?;
-    let segments = segments_in(alloc, &mut parts, defs, site)?;
-    Ok((parts.1.sealed(), segments))
+    let mut parts = restarted(alloc, defs, scripts, site)?;
+    found_in(alloc, &mut parts, defs, site)
 }
 
-// The segments of the state of these parts.
-fn segments_in(
+// The same of what it gave.
+fn found_in(
     alloc: Global,
     parts: &mut Parts,
     defs: &Defs,
     site: &mut MemorySite,
-) -> Result<Bytes, RestartFault> {
+) -> Result<(u64, Bytes), RestartFault> {
     let db = whole_db(alloc, parts, defs, site)?;
-    Ok(segments_of(alloc, &db)?)
+    Ok((parts.1.sealed(), segments_of(alloc, &db)?))
 }
 
 // Restarts, and gives the last gate's place. The front, the groups and that gate were read, each byte once.
@@ -202,17 +271,6 @@ fn read_once(
     Ok(parts.1.gate())
 }
 
-// Behind a gate and a length stands an entry of 29 bytes with an item of 17.
-#[test]
-fn a_restart_reads_each_byte_once(rt: HostRuntime) -> Result<(), Fail> {
-    let alloc = rt.alloc();
-    let defs = defs_of(alloc, &[NOTES, LOADED])?;
-    let mut site = two_written(alloc, &defs)?;
-    let gate = FIRST + 2 * (1 + 8 + 29 + 17);
-    assert!(rt; read_once(alloc, &defs, b'S', &mut site) == Ok(gate));
-    Ok(())
-}
-
 // Whether a restart gave so many entries and these segments.
 fn is_found(answer: &Result<(u64, Bytes), RestartFault>, count: u64, segments: &[u8]) -> bool {
     match answer {
@@ -221,35 +279,12 @@ fn is_found(answer: &Result<(u64, Bytes), RestartFault>, count: u64, segments: &
     }
 }
 
-#[test]
-fn a_restart_gives_the_segments_of_the_last_group(rt: HostRuntime) -> Result<(), Fail> {
-    let alloc = rt.alloc();
-    let defs = defs_of(alloc, &[NOTES, LOADED])?;
-    let mut site = two_written(alloc, &defs)?;
-    let answer = read(alloc, &defs, b'S', &mut site);
-    assert!(rt; is_found(&answer, 2, b"A001paidB002open"));
-    Ok(())
-}
-
 // Restarts, and writes one group more.
 fn go_on(alloc: Global, defs: &Defs, site: &mut MemorySite) -> Result<(), RestartFault>
     requires { AreDefs defs.now }
 {
-    let front = front(alloc, b'S')?;
-    let (_, mut log, _) = restart(alloc, defs, &front, site)?;
-    let item = segment(alloc, 0, b"B002", b"B002shut")?;
-    seal(alloc, &mut log, site, item)
-}
-
-#[test]
-fn a_log_goes_on_behind_what_a_restart_found(rt: HostRuntime) -> Result<(), Fail> {
-    let alloc = rt.alloc();
-    let defs = defs_of(alloc, &[NOTES, LOADED])?;
-    let mut site = two_written(alloc, &defs)?;
-    assert!(rt; go_on(alloc, &defs, &mut site).is_ok());
-    let answer = read(alloc, &defs, b'S', &mut site);
-    assert!(rt; is_found(&answer, 3, b"A001paidB002shut"));
-    Ok(())
+    let mut parts = restarted(alloc, defs, b'S', site)?;
+    seal(alloc, &mut parts.1, site, SHUT)
 }
 
 // Whether a restart gave the start.
@@ -283,8 +318,8 @@ fn is_left_well(
     Ok(true)
 }
 
-// Makes a log anew over the contents of a site, where the call with this number and the next one fail. Whether it is made
-// where no call fails alone, and what is left is as it may be.
+// Makes a log anew over the contents of a site, where the call with this number and the next one fail. Whether it is
+// made where no call fails alone, and what is left is as it may be.
 fn leaves_well(alloc: Global, defs: &Defs, old: &MemorySite, after: u64) -> Result<bool, AllocError>
     requires after { after < 100 }
     requires defs { AreDefs defs.now }
@@ -294,35 +329,43 @@ fn leaves_well(alloc: Global, defs: &Defs, old: &MemorySite, after: u64) -> Resu
     Ok(made == (after == 9) && is_left_well(alloc, defs, &site, after)?)
 }
 
+// The first stop that leaves something else, of a site with a log of two groups.
+fn first_left_badly(alloc: Global, defs: &Defs) -> Result<Option<u64>, RestartFault>
+    requires { AreDefs defs.now }
+{
+    let old = two_written(alloc, defs)?;
+    for after in 0..10 {
+        if !matches!(leaves_well(alloc, defs, &old, after), Ok(true)) {
+            return Ok(Some(after));
+        }
+    }
+    Ok(None)
+}
+
 #[test]
 fn after_each_stop_of_define_the_old_state_stands_or_none_or_the_start(
     rt: HostRuntime,
 ) -> Result<(), Fail> {
-    let alloc = rt.alloc();
-    let defs = defs_of(alloc, &[NOTES, LOADED])?;
-    let old = two_written(alloc, &defs)?;
-    for after in 0..10 {
-        assert!(rt;
-            leaves_well(alloc, &defs, &old, after)?,
-            "stopped at {after}"
-        );
-    }
+    let defs = accounts(rt.alloc())?;
+    let wrong = first_left_badly(rt.alloc(), &defs)?;
+    let after = wrong.unwrap_or(0);
+    assert!(rt; wrong.is_none(), "stopped at {after}");
     Ok(())
 }
 
 // What a restart answers for a new log with these bytes at its first gate.
-fn with_bytes(
+fn read_with(
     alloc: Global,
     defs: &Defs,
-    bytes: &[u8; 12],
-    count: usize,
+    bytes: &[u8],
+    site: &mut MemorySite,
 ) -> Result<(u64, Bytes), RestartFault>
-    requires { AreDefs defs.now }
+    requires defs { AreDefs defs.now }
+    requires bytes { length bytes.now ≤ 12 }
 {
-    let mut site = MemorySite::new(alloc, &[])?;
-    make(alloc, defs, &mut site)?;
-    site.write_at(0, FIRST, &bytes[..count.min(12)])?;
-    read(alloc, defs, b'S', &mut site)
+    make(alloc, defs, site)?;
+    site.write_at(0, FIRST, bytes)?;
+    read(alloc, defs, b'S', site)
 }
 
 // Whether a restart found damage in the log at this place.
@@ -344,58 +387,137 @@ static GATES: [([u8; 12], usize, bool); 6] = [
     ([1, 0, 0, 0, 0, 0, 0, 0, 3, 0, 0, 0], 12, true),
 ];
 
+// Whether they are damage there where they should be, and else the start stands.
+fn is_as_wanted(
+    alloc: Global,
+    defs: &Defs,
+    gate: &([u8; 12], usize, bool),
+) -> Result<bool, AllocError>
+    requires { AreDefs defs.now }
+{
+    let (bytes, count, is_damage) = gate;
+    let mut site = MemorySite::new(alloc, &[])?;
+    let answer = read_with(alloc, defs, &bytes[..(*count).min(12)], &mut site);
+    Ok(if *is_damage {
+        is_damaged(&answer, FIRST)
+    } else {
+        is_start(&answer)
+    })
+}
+
 #[test]
 fn an_open_gate_without_a_group_is_damaged_at_its_place(rt: HostRuntime) -> Result<(), Fail> {
-    let alloc = rt.alloc();
-    let defs = defs_of(alloc, &[NOTES, LOADED])?;
-    for (row, (bytes, count, is_damage)) in GATES.iter().enumerate() {
-        let answer = with_bytes(alloc, &defs, bytes, *count);
-        let is_so = if *is_damage {
-            is_damaged(&answer, FIRST)
-        } else {
-            is_start(&answer)
-        };
-        assert!(rt; is_so, "row {row}");
+    let defs = accounts(rt.alloc())?;
+    for (row, gate) in GATES.iter().enumerate() {
+        assert!(rt; is_as_wanted(rt.alloc(), &defs, gate)?, "row {row}");
     }
     Ok(())
 }
 
-#[test]
-fn storage_without_a_log_is_foreign(rt: HostRuntime) -> Result<(), Fail> {
-    let alloc = rt.alloc();
-    let defs = defs_of(alloc, &[NOTES, LOADED])?;
-    let mut site = MemorySite::new(alloc, &[])?;
-    assert!(rt; is_foreign(&read(alloc, &defs, b'S', &mut site)));
-    Ok(())
+// What is asked of a site.
+#[derive(Clone, Copy)]
+enum Asked {
+    // Without a log it is foreign.
+    Empty,
+    // A restart reads each byte of a log of two groups once.
+    ReadsOnce,
+    // It gives the segments of the last group.
+    Gives,
+    // The log goes on behind what a restart found.
+    GoesOn,
+    // With another front it is foreign, and stays.
+    Another,
 }
 
-#[test]
-fn another_front_is_foreign_and_stays(rt: HostRuntime) -> Result<(), Fail> {
-    let alloc = rt.alloc();
-    let defs = defs_of(alloc, &[NOTES, LOADED])?;
-    let mut site = two_written(alloc, &defs)?;
-    let before = Vec::from_slice(alloc, site.contents(0))?;
-    assert!(rt; is_foreign(&read(alloc, &defs, b'X', &mut site)));
-    assert!(rt; site.contents(0) == before.as_slice());
-    Ok(())
-}
+static ASKED: [Asked; 5] = [
+    Asked::Empty,
+    Asked::ReadsOnce,
+    Asked::Gives,
+    Asked::GoesOn,
+    Asked::Another,
+];
 
-// An item of a case: no such database, another key, an area that isn't there, the log itself, an interval behind the
-// last place; from case 5 on items that fit.
-fn item(alloc: Global, case: u64) -> Result<Item, AllocError>
-    ensures { IfOk result FitsItem }
+fn is_foreign_when_empty(alloc: Global, defs: &Defs) -> Result<bool, RestartFault>
+    requires { AreDefs defs.now }
 {
-    match case {
-        0 => segment(alloc, 7, b"B002", b"B002open"),
-        1 => segment(alloc, 0, b"B002", b"A001open"),
-        2 => image(alloc, 5, 0),
-        3 => image(alloc, 0, 0),
-        4 => image(alloc, 3, 1 << 53),
-        5 => image(alloc, 3, 1),
-        6 => image(alloc, 4, (1 << 53) - 1),
-        _ => segment(alloc, 0, b"B002", b"B002open"),
+    let mut site = MemorySite::new(alloc, &[])?;
+    Ok(is_foreign(&read(alloc, defs, b'S', &mut site)))
+}
+
+// Whether a restart gives so many entries and these segments.
+fn gives(alloc: Global, defs: &Defs, site: &mut MemorySite, count: u64, segments: &[u8]) -> bool
+    requires { AreDefs defs.now }
+{
+    is_found(&read(alloc, defs, b'S', site), count, segments)
+}
+
+// Whether a restart with another front finds none, and the log stays.
+fn stays(alloc: Global, defs: &Defs, site: &mut MemorySite) -> Result<bool, RestartFault>
+    requires { AreDefs defs.now }
+{
+    let before = Vec::from_slice(alloc, site.contents(0))?;
+    Ok(is_foreign(&read(alloc, defs, b'X', site)) && site.contents(0) == before.as_slice())
+}
+
+// Behind a gate and a length stands an entry of 29 bytes with an item of 17.
+const LAST: u64 = FIRST + 2 * (1 + 8 + 29 + 17);
+
+// Whether a site with a log of two groups answers so.
+fn two_answer(
+    alloc: Global,
+    defs: &Defs,
+    site: &mut MemorySite,
+    asked: Asked,
+) -> Result<bool, RestartFault>
+    requires { AreDefs defs.now }
+{
+    match asked {
+        Asked::Empty => Ok(false),
+        Asked::ReadsOnce => Ok(read_once(alloc, defs, b'S', site) == Ok(LAST)),
+        Asked::Gives => Ok(gives(alloc, defs, site, 2, b"A001paidB002open")),
+        Asked::GoesOn => {
+            go_on(alloc, defs, site)?;
+            Ok(gives(alloc, defs, site, 3, b"A001paidB002shut"))
+        }
+        Asked::Another => stays(alloc, defs, site),
     }
 }
+
+fn answers(alloc: Global, defs: &Defs, asked: Asked) -> Result<bool, RestartFault>
+    requires { AreDefs defs.now }
+{
+    if matches!(asked, Asked::Empty) {
+        return is_foreign_when_empty(alloc, defs);
+    }
+    let mut site = two_written(alloc, defs)?;
+    two_answer(alloc, defs, &mut site, asked)
+}
+
+#[test]
+fn a_site_answers_a_restart(rt: HostRuntime) -> Result<(), Fail> {
+    let defs = accounts(rt.alloc())?;
+    for (place, asked) in ASKED.iter().enumerate() {
+        assert!(rt; answers(rt.alloc(), &defs, *asked)?, "asked {place}");
+    }
+    Ok(())
+}
+
+// Two groups of a log, and whether a restart finds damage at the second one's gate: no such database, another key, an
+// area that isn't there, the log itself, an interval behind the last place; items that fit; and ranges of an interval,
+// of which the first has its image.
+static BOTH: [(Part, Part, bool); 11] = [
+    (PAID, Part::Segment(7, *b"B002", *b"B002open"), true),
+    (PAID, Part::Segment(0, *b"B002", *b"A001open"), true),
+    (PAID, Part::Image(5, 0), true),
+    (PAID, Part::Image(0, 0), true),
+    (PAID, Part::Image(3, 1 << 53), true),
+    (PAID, Part::Image(3, 1), false),
+    (PAID, Part::Image(4, (1 << 53) - 1), false),
+    (PAID, OPEN, false),
+    (Part::Image(3, 1), Part::Range(3, 1), false),
+    (Part::Image(3, 1), Part::Range(3, 2), true),
+    (Part::Image(3, 1), Part::Range(4, 1), true),
+];
 
 // Whether a restart found the damage at this gate, or, where there is none, gave a state.
 fn fits_or_is_damaged(
@@ -410,77 +532,45 @@ fn fits_or_is_damaged(
     }
 }
 
-// Writes a group that fits and one with the item of a case, and answers where the second one's gate stands.
-fn write_case(
+fn both_groups() -> &'static [(Part, Part, bool)] {
+    &BOTH
+}
+
+// Writes both groups: whether a restart finds the damage that it should.
+fn write_and_read(
     alloc: Global,
     defs: &Defs,
     site: &mut MemorySite,
-    case: u64,
-) -> Result<u64, RestartFault> {
-    let first = segment(alloc, 0, b"A001", b"A001paid")?;
-    let second = item(alloc, case)?;
-    write_both(alloc, defs, site, first, second)
-}
-
-// Whether the answer of a restart over the item of a case is as it should be.
-fn case_fits_or_is_damaged(alloc: Global, defs: &Defs, case: u64) -> Result<bool, RestartFault>
+    both: &(Part, Part, bool),
+) -> Result<bool, RestartFault>
     requires { AreDefs defs.now }
 {
-    let mut site = MemorySite::new(alloc, &[])?;
-    let gate = write_case(alloc, defs, &mut site, case)?;
-    let answer = read(alloc, defs, b'S', &mut site);
-    Ok(fits_or_is_damaged(&answer, gate, case < 5))
+    let (first, second, is_damage) = *both;
+    let gate = write_both(alloc, defs, site, first, second)?;
+    let answer = read(alloc, defs, b'S', site);
+    Ok(fits_or_is_damaged(&answer, gate, is_damage))
 }
 
-#[test]
-fn an_item_that_does_not_fit_is_damage_at_its_group(rt: HostRuntime) -> Result<(), Fail> {
-    let alloc = rt.alloc();
-    let defs = defs_of(alloc, &[NOTES, LOADED, ORDERS])?;
-    for case in 0..8 {
-        assert!(rt; case_fits_or_is_damaged(alloc, &defs, case)?, "case {case}");
-    }
-    Ok(())
-}
-
-// Writes an image of the first area's second interval and behind it a range of this one, and answers where the gate of
-// the range's group stands.
-fn write_range(
+// The same on a new site.
+fn both_fit_or_are_damaged(
     alloc: Global,
     defs: &Defs,
-    site: &mut MemorySite,
-    set: u16,
-    ci: u64,
-) -> Result<u64, RestartFault> {
-    let first = image(alloc, 3, 1)?;
-    let second = range(alloc, set, ci)?;
-    write_both(alloc, defs, site, first, second)
-}
-
-// Intervals, and whether a range of one is damage there.
-static RANGES: [(u16, u64, bool); 3] = [(3, 1, false), (3, 2, true), (4, 1, true)];
-
-// Whether the answer of a restart over a range of an interval is of that kind.
-fn range_fits_or_is_damaged(
-    alloc: Global,
-    defs: &Defs,
-    at: (u16, u64),
-    is_damage: bool,
+    both: &(Part, Part, bool),
 ) -> Result<bool, RestartFault>
     requires { AreDefs defs.now }
 {
     let mut site = MemorySite::new(alloc, &[])?;
-    let gate = write_range(alloc, defs, &mut site, at.0, at.1)?;
-    let answer = read(alloc, defs, b'S', &mut site);
-    Ok(fits_or_is_damaged(&answer, gate, is_damage))
+    write_and_read(alloc, defs, &mut site, both)
 }
 
 #[test]
-fn a_range_without_its_image_is_damage_at_its_group(rt: HostRuntime) -> Result<(), Fail> {
-    let alloc = rt.alloc();
-    let defs = defs_of(alloc, &[NOTES, LOADED, ORDERS])?;
-    for (row, (set, ci, is_damage)) in RANGES.iter().enumerate() {
-        let is_so = range_fits_or_is_damaged(alloc, &defs, (*set, *ci), *is_damage)?;
-        assert!(rt; is_so, "row {row}");
+fn an_item_that_does_not_fit_is_damage_at_its_group(rt: HostRuntime) -> Result<(), Fail> {
+    let defs = accounts_and_orders(rt.alloc())?;
+    for (row, both) in both_groups().iter().enumerate() {
+        assert!(rt;
+            both_fit_or_are_damaged(rt.alloc(), &defs, both)?,
+            "row {row}"
+        );
     }
     Ok(())
 }
@@ -496,22 +586,28 @@ fn is_formatted(db: &Db) -> bool {
         && orders.areas.as_slice() == [ends, ends].as_slice()
 }
 
-#[test]
-fn data_entry_databases_are_as_they_were_formatted(rt: HostRuntime) -> Result<(), Fail> {
-    let alloc = rt.alloc();
-    let defs = defs_of(alloc, &[NOTES, LOADED, ORDERS])?;
-    let mut site = MemorySite::new(alloc, &[])?;
-    let db = started(alloc, &defs, &mut site)?;
-    assert!(rt; is_formatted(&db));
-    Ok(())
-}
-
 // The state of a new log.
 fn started(alloc: Global, defs: &Defs, site: &mut MemorySite) -> Result<Db, RestartFault>
     requires { AreDefs defs.now }
 {
     make(alloc, defs, site)?;
-    let front = front(alloc, b'S')?;
-    let mut parts = restart(alloc, defs, &front, site)?;
+    let mut parts = restarted(alloc, defs, b'S', site)?;
     whole_db(alloc, &mut parts, defs, site)
+}
+
+fn starts_formatted(alloc: Global, defs: &Defs) -> Result<bool, RestartFault>
+    requires { AreDefs defs.now }
+{
+    let mut site = MemorySite::new(alloc, &[])?;
+    match started(alloc, defs, &mut site) {
+        Ok(db) => Ok(is_formatted(&db)),
+        Err(fault) => Err(fault),
+    }
+}
+
+#[test]
+fn data_entry_databases_are_as_they_were_formatted(rt: HostRuntime) -> Result<(), Fail> {
+    let defs = accounts_and_orders(rt.alloc())?;
+    assert!(rt; starts_formatted(rt.alloc(), &defs)?);
+    Ok(())
 }

@@ -1,5 +1,5 @@
 //! Sites that are stopped at any call while they are made and run: what a restart from what a crash may leave has kept.
-use crate::steps::{Input, NOTHING, run};
+use crate::steps::{Input, NOTHING, outcome, run};
 use crate::systems::{ONE_REGION, PAIRS, System, TWO_REGIONS};
 use fp_model::Bytes;
 use fp_system::Status;
@@ -71,17 +71,20 @@ static STOPPED: [Stopped; 4] = [
     },
 ];
 
-// A site that is made and run, all of whose calls from this number on fail; and whether it was made.
-fn stop(alloc: Global, row: &Stopped, after: u64) -> Result<(MemorySite, bool), AllocError> {
-    let mut site = MemorySite::stopping(alloc, after)?;
-    let (made, _) = run(alloc, "define", row.system, NOTHING, &mut site)?;
+fn stopped_rows() -> &'static [Stopped] {
+    &STOPPED
+}
+
+// Makes and runs a site. Whether it was made.
+fn make_and_run(alloc: Global, row: &Stopped, site: &mut MemorySite) -> Result<bool, AllocError> {
+    let made = outcome(alloc, "define", row.system, NOTHING, site)? == Status::Done;
     let input = Input {
         schedule: row.schedule,
         messages: row.messages.as_bytes(),
         failing: &[],
     };
-    let _ = run(alloc, "run", row.system, input, &mut site)?;
-    Ok((site, made == Status::Done))
+    let _ = outcome(alloc, "run", row.system, input, site)?;
+    Ok(made)
 }
 
 // What the command behind a stop answers and sends.
@@ -113,20 +116,56 @@ fn is_kept(
     Ok(status == Status::Done && left.iter().any(is_text))
 }
 
+// Makes and runs a site whose calls may fail: the first of eight images that hasn't what was answered, and whether a
+// call failed.
+fn first_lost_image(
+    alloc: Global,
+    row: &Stopped,
+    site: &mut MemorySite,
+) -> Result<(Option<u64>, bool), AllocError> {
+    let made = make_and_run(alloc, row, site)?;
+    for choice in 0..8 {
+        if !is_kept(alloc, row, site.snapshot_as(choice)?, made)? {
+            return Ok((Some(choice), true));
+        }
+    }
+    Ok((None, site.faults() > 0))
+}
+
+// The same of a site all of whose calls from this number on fail.
+fn first_lost_behind(
+    alloc: Global,
+    row: &Stopped,
+    after: u64,
+) -> Result<(Option<u64>, bool), AllocError> {
+    let mut site = MemorySite::stopping(alloc, after)?;
+    first_lost_image(alloc, row, &mut site)
+}
+
+// The first stop of a run and image that hasn't what was answered.
+fn first_lost(alloc: Global, row: &Stopped) -> Result<Option<(u64, u64)>, AllocError> {
+    for after in 0..row.calls {
+        let (lost, failed) = first_lost_behind(alloc, row, after)?;
+        if let Some(choice) = lost {
+            return Ok(Some((after, choice)));
+        }
+        // Behind the last call nothing fails.
+        if !failed {
+            break;
+        }
+    }
+    Ok(None)
+}
+
 #[test]
 fn a_restart_has_what_was_answered(rt: HostRuntime) -> Result<(), Fail> {
-    for (number, row) in STOPPED.iter().enumerate() {
-        for after in 0..row.calls {
-            let (site, made) = stop(rt.alloc(), row, after)?;
-            for choice in 0..8 {
-                let kept = is_kept(rt.alloc(), row, site.snapshot_as(choice)?, made)?;
-                assert!(rt; kept, "row {number} stopped at {after}, image {choice}");
-            }
-            // Behind the last call nothing fails.
-            if site.faults() == 0 {
-                break;
-            }
-        }
+    for (number, row) in stopped_rows().iter().enumerate() {
+        let lost = first_lost(rt.alloc(), row)?;
+        let (after, choice) = lost.unwrap_or((0, 0));
+        assert!(rt;
+            lost.is_none(),
+            "row {number} stopped at {after}, image {choice}"
+        );
     }
     Ok(())
 }
@@ -139,16 +178,22 @@ fn is_last(row: &Stopped, text: &[u8]) -> bool {
     }
 }
 
-// Whether a run that isn't stopped has all, and the command behind it says so.
-fn has_all(alloc: Global, row: &Stopped) -> Result<bool, AllocError> {
-    let (site, made) = stop(alloc, row, row.calls)?;
+// Makes and runs a site. Whether it has all, and the command behind the run says so.
+fn has_all_of(alloc: Global, row: &Stopped, site: &mut MemorySite) -> Result<bool, AllocError> {
+    let made = make_and_run(alloc, row, site)?;
     let (status, text) = asked(alloc, row, site.snapshot_as(0)?)?;
     Ok(made && status == Status::Done && is_last(row, text.as_slice()))
 }
 
+// The same of a site that isn't stopped.
+fn has_all(alloc: Global, row: &Stopped) -> Result<bool, AllocError> {
+    let mut site = MemorySite::stopping(alloc, row.calls)?;
+    has_all_of(alloc, row, &mut site)
+}
+
 #[test]
 fn a_run_that_is_not_stopped_has_all(rt: HostRuntime) -> Result<(), Fail> {
-    for (number, row) in STOPPED.iter().enumerate() {
+    for (number, row) in stopped_rows().iter().enumerate() {
         assert!(rt; has_all(rt.alloc(), row)?, "row {number}");
     }
     Ok(())

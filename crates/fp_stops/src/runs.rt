@@ -43,13 +43,16 @@ static REPLIES: [(&str, &str); 15] = [
     ("T1 5 ASK A001\nT1 4 NOSUCH\n", "T1 OK 100\nT1 NO OLD 5\n"),
 ];
 
+// Whether messages one after another on a new site are answered so.
+fn are_answered(alloc: Global, messages: &str, sent: &str) -> Result<bool, AllocError> {
+    let mut folder = Folder::new(alloc, ONE_REGION)?;
+    folder.defines_and_runs(EACH_SEALED, messages, sent)
+}
+
 #[test]
 fn messages_have_their_replies(rt: HostRuntime) -> Result<(), Fail> {
     for (place, (messages, sent)) in REPLIES.iter().enumerate() {
-        let mut folder = Folder::new(rt.alloc(), ONE_REGION)?;
-        let made = folder.tells("define", "")?;
-        let ran = folder.runs(EACH_SEALED, messages, sent)?;
-        assert!(rt; made && ran, "row {place}");
+        assert!(rt; are_answered(rt.alloc(), messages, sent)?, "row {place}");
     }
     Ok(())
 }
@@ -261,14 +264,24 @@ static SCHEDULES: [(&str, &str, &str, usize); 8] = [
     ),
 ];
 
+// Whether a run by a schedule on a new site sends this, and the groups of its log have so many bytes.
+fn is_scheduled(
+    alloc: Global,
+    schedule: &str,
+    messages: &str,
+    sent: &str,
+    length: usize,
+) -> Result<bool, AllocError> {
+    let mut folder = Folder::new(alloc, PAIRS)?;
+    let ran = matches!(folder.defines_and_runs(schedule, messages, sent), Ok(true));
+    Ok(ran && folder.has_groups_of(length))
+}
+
 #[test]
 fn a_schedule_says_whose_turn_it_is(rt: HostRuntime) -> Result<(), Fail> {
     for (place, (schedule, messages, sent, length)) in SCHEDULES.iter().enumerate() {
-        let mut folder = Folder::new(rt.alloc(), PAIRS)?;
-        let made = folder.tells("define", "")?;
-        let ran = folder.runs(schedule, messages, sent)?;
-        let long = folder.has_groups_of(*length);
-        assert!(rt; made && ran && long, "row {place}");
+        let is_so = is_scheduled(rt.alloc(), schedule, messages, sent, *length)?;
+        assert!(rt; is_so, "row {place}");
     }
     Ok(())
 }
@@ -289,6 +302,20 @@ static CUT_SHORT: [(&str, &str, &str); 4] = [
 ];
 
 // Whether a run that ends at a line that is too long sends this, and a question behind it is answered so.
+fn ends_too_long(
+    folder: &mut Folder,
+    schedule: &str,
+    sent: &str,
+    asked: &str,
+) -> Result<bool, AllocError> {
+    Ok(
+        folder.tells("define", "")?
+            && folder.runs_too_long(schedule, TWO_DEPOSITS, 3, sent)?
+            && folder.runs("", "T3 ASK A001\n", asked)?,
+    )
+}
+
+// The same on a new site.
 fn is_cut_short(
     alloc: Global,
     schedule: &str,
@@ -296,10 +323,7 @@ fn is_cut_short(
     asked: &str,
 ) -> Result<bool, AllocError> {
     let mut folder = Folder::new(alloc, PAIRS)?;
-    let made = folder.tells("define", "")?;
-    let ended = folder.runs_too_long(schedule, TWO_DEPOSITS, 3, sent)?;
-    let left = folder.runs("", "T3 ASK A001\n", asked)?;
-    Ok(made && ended && left)
+    ends_too_long(&mut folder, schedule, sent, asked)
 }
 
 #[test]

@@ -16,9 +16,38 @@ pub(crate) fn status_over(
     site: &mut MemorySite,
 ) -> Result<Status, AllocError> {
     let mut source = MemorySource::new(alloc, parts, failing)?;
+    status_of(alloc, words, &mut source, site)
+}
+
+// What it answers over these sources.
+fn status_of(
+    alloc: Global,
+    words: &[&str],
+    source: &mut MemorySource,
+    site: &mut MemorySite,
+) -> Result<Status, AllocError> {
     let texts = texts_of(alloc, words)?;
+    status_with(alloc, &texts, source, site)
+}
+
+fn status_with(
+    alloc: Global,
+    texts: &[String],
+    source: &mut MemorySource,
+    site: &mut MemorySite,
+) -> Result<Status, AllocError> {
     let exits = exits(alloc)?;
-    Ok(ims(alloc, &texts, &mut source, site, &exits))
+    Ok(ims(alloc, texts, source, site, &exits))
+}
+
+// The four parts that a command reads.
+fn parts_of(alloc: Global, system: System, input: Input<'_>) -> Result<[Bytes; 4], AllocError> {
+    Ok([
+        system.definitions(alloc)?,
+        Bytes::from_slice(alloc, system.scripts.as_bytes())?,
+        Bytes::from_slice(alloc, input.schedule.as_bytes())?,
+        Bytes::from_slice(alloc, input.messages)?,
+    ])
 }
 
 // The words of a command, as the program is given them.
@@ -52,16 +81,23 @@ pub(crate) fn run(
     input: Input<'_>,
     site: &mut MemorySite,
 ) -> Result<(Status, Bytes), AllocError> {
-    let parts = [
-        system.definitions(alloc)?,
-        Bytes::from_slice(alloc, system.scripts.as_bytes())?,
-        Bytes::from_slice(alloc, input.schedule.as_bytes())?,
-        Bytes::from_slice(alloc, input.messages)?,
-    ];
+    let parts = parts_of(alloc, system, input)?;
     let before = site.sent().len();
     let status = status_over(alloc, &[command, "D"], parts, input.failing, site)?;
     let sent = site.sent().get(before..).unwrap_or(b"");
     Ok((status, Bytes::from_slice(alloc, sent)?))
+}
+
+// What it answers, where nobody looks at what it sends.
+pub(crate) fn outcome(
+    alloc: Global,
+    command: &str,
+    system: System,
+    input: Input<'_>,
+    site: &mut MemorySite,
+) -> Result<Status, AllocError> {
+    let (status, _) = run(alloc, command, system, input, site)?;
+    Ok(status)
 }
 
 // What a command answers.
@@ -192,6 +228,16 @@ impl Folder {
         self.ends("run", input, Answer::Done, wanted)
     }
 
+    // Whether the databases are made, and a run is done and sends these lines.
+    pub(crate) fn defines_and_runs(
+        &mut self,
+        schedule: &str,
+        messages: &str,
+        wanted: &str,
+    ) -> Result<bool, AllocError> {
+        Ok(self.tells("define", "")? && self.runs(schedule, messages, wanted)?)
+    }
+
     // Whether a run is done and sends so many lines.
     pub(crate) fn runs_lines(
         &mut self,
@@ -285,6 +331,16 @@ impl Folder {
             Step::Groups(groups) => Ok(self.groups() == groups),
         }
     }
+
+    // The first step that doesn't come to what is wanted, by its place.
+    fn wrong_step(&mut self, steps: &[Step]) -> Result<Option<usize>, AllocError> {
+        for (place, step) in steps.iter().enumerate() {
+            if !self.take(step)? {
+                return Ok(Some(place));
+            }
+        }
+        Ok(None)
+    }
 }
 
 // A system, and steps on a new site of it.
@@ -296,12 +352,7 @@ pub(crate) struct Row {
 // The first step of a row that doesn't come to what is wanted, by its place.
 fn wrong_step(alloc: Global, row: &Row) -> Result<Option<usize>, AllocError> {
     let mut folder = Folder::new(alloc, row.system)?;
-    for (place, step) in row.steps.iter().enumerate() {
-        if !folder.take(step)? {
-            return Ok(Some(place));
-        }
-    }
-    Ok(None)
+    folder.wrong_step(row.steps)
 }
 
 // The first row with a step that doesn't come to what is wanted, and that step, by their places.

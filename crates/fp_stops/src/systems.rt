@@ -147,6 +147,12 @@ pub(crate) fn shown(alloc: Global, left: Balances) -> Result<String, AllocError>
     )
 }
 
+// Whether a text is that of these databases.
+pub(crate) fn is_shown(alloc: Global, text: &[u8], left: Balances) -> Result<bool, AllocError> {
+    let wanted = shown(alloc, left)?;
+    Ok(text == wanted.as_bytes())
+}
+
 // ---- definitions that are read
 
 // Accounts with notes. Behind this stands what is loaded.

@@ -78,14 +78,19 @@ group 1 entries 1
     },
 ];
 
-// Whether a run on a new site sends its lines, and `show` and `log` behind it their texts.
+// Whether a run on a site sends its lines, and `show` and `log` behind it their texts.
+fn tells(alloc: Global, folder: &mut Folder, text: &Text) -> Result<bool, AllocError> {
+    Ok(
+        folder.defines_and_runs(text.schedule, text.messages, text.sent)?
+            && shows(alloc, folder, text.left)?
+            && folder.tells("log", text.logged)?,
+    )
+}
+
+// The same on a new site.
 fn is_told(alloc: Global, text: &Text) -> Result<bool, AllocError> {
     let mut folder = Folder::new(alloc, TWO_REGIONS)?;
-    let made = folder.tells("define", "")?;
-    let ran = folder.runs(text.schedule, text.messages, text.sent)?;
-    let shown = shows(alloc, &mut folder, text.left)?;
-    let logged = folder.tells("log", text.logged)?;
-    Ok(made && ran && shown && logged)
+    tells(alloc, &mut folder, text)
 }
 
 // Whether `show` sends the text of these balances.
@@ -296,12 +301,19 @@ IN R1 R2 R3 R4
 IN R1 R2 R3 R4",
 ];
 
-// Whether the mix comes to its text by a schedule.
+// Whether the mix comes to its text by a schedule on a site.
+fn mixes(alloc: Global, folder: &mut Folder, schedule: &str) -> Result<bool, AllocError> {
+    Ok(
+        folder.tells("define", "")?
+            && folder.runs_lines(schedule, MIXED, 30)?
+            && shows(alloc, folder, (290, 40, 1))?,
+    )
+}
+
+// The same on a new site.
 fn is_mixed(alloc: Global, schedule: &str) -> Result<bool, AllocError> {
     let mut folder = Folder::new(alloc, FOUR_REGIONS)?;
-    let made = folder.tells("define", "")?;
-    let ran = folder.runs_lines(schedule, MIXED, 30)?;
-    Ok(made && ran && shows(alloc, &mut folder, (290, 40, 1))?)
+    mixes(alloc, &mut folder, schedule)
 }
 
 #[test]
