@@ -1,12 +1,10 @@
 -- Sequential dependents at a root of an anchor: one more in front, or the oldest gone.
-use Rattle.std.proofs.Common.{◌≡◌, ◌∙◌, ◌++◌, ◌∷◌, ℕ, ◌^◌, ◌<◌, List, [], Some, None, refl, ap, subst, Bool, true, false, ◌&&◌, nat_le, nat_lt, slice_get, slice_set, arith}
+use Rattle.std.proofs.Common.{◌≡◌, ◌∙◌, ◌++◌, ◌∷◌, ℕ, ◌^◌, ◌<◌, List, [], Some, refl, ap, Bool, true, false, ◌&&◌, nat_le, nat_lt, slice_get, slice_set, arith}
 use Rattle.std.specs.List.{list_all}
 use Rattle.std.specs.Option.{option_map_or}
-use Rattle.fp_model.specs.declared.database.AreaEnds.{AreaEnds}
 use Rattle.fp_model.specs.declared.database.Root.{Root}
 use Rattle.fp_model.specs.declared.database.SeqItem.{SeqItem}
 use Rattle.fp_model.specs.declared.definitions.DedbDef.{DedbDef}
-use Rattle.fp_model.specs.declared.definitions.SegDef.{SegDef}
 use Rattle.fp_model.specs.Commit.{with_newest}
 use Rattle.fp_model.specs.Order.{root_key, sequential_type}
 use Rattle.fp_model.specs.Shape.{are_newest_first, has_length, have_lengths, is_anchor}

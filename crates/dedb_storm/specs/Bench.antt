@@ -1,5 +1,5 @@
 -- A transaction of the only region, with its locks.
-use Rattle.std.specs.Prelude.{◌≡◌, ℕ, ◌<◌, List, length}
+use Rattle.std.specs.Prelude.{◌≡◌, List, length}
 use Rattle.ci_locks.specs.Standing.{Shows}
 use Rattle.ci_locks.specs.Table.{Row, standing}
 use Rattle.fp_model.specs.declared.definitions.DedbDef.{DedbDef}

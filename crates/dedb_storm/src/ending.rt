@@ -12,13 +12,14 @@ ghost use Rattle.std.specs.Option.{option_map_or};
 ghost use Rattle.std.specs.Prelude.{◌≡◌, ◌<◌, ◌^◌, ◌++◌, ◌∷◌, [], IfOk, IfSome, List as ListOf, IsTrue, OnOk, false, length, true, ℕ};
 
 use crate::bank::roots_at;
-use crate::fault::Fault;
-use dli_calls::Work;
+use crate::fault::{Fault, put};
+use dli_calls::{Parts, Work};
 use dli_tree::key_in;
 use fp_model::{
     AnchorChange, AreaEnds, Bytes, DedbDef, Defs, List, Root, SegDef, SeqInsert, SeqItem,
 };
 use std::alloc::{AllocError, Global};
+use std::mem;
 
 /// The sequential part of an area keeps so many.
 const CAPACITY: u64 = 4;
@@ -29,13 +30,6 @@ const CAPACITY: u64 = 4;
 pub(crate) struct Standing {
     pub(crate) anchors: Vec<AnchorChange>,
     pub(crate) ends: AreaEnds,
-}
-
-/// What one transaction leaves, and how many sequential inserts it had queued.
-#[derive(Drop)]
-pub(crate) struct Left {
-    pub(crate) standing: Standing,
-    pub(crate) queued: usize,
 }
 
 /// No root and no sequential dependent.
@@ -119,86 +113,88 @@ fn put_at(
 
 // ---- the inserts of a transaction
 
-/// One change in front of others.
-fn in_front(
-    alloc: Global,
-    change: AnchorChange,
-    others: Vec<AnchorChange>,
-) -> Result<Vec<AnchorChange>, AllocError>
-    ensures { IfOk result (λ all. all.items ≡ change ∷ others.items) }
+/// Puts a change in front of others.
+fn put_in_front(change: AnchorChange, others: &mut Vec<AnchorChange>) -> Result<(), AllocError>
+    ensures { OnOk result (others.new.items ≡ change ∷ others.old.items) }
 {
-    let mut all = Vec::new(alloc);
-    all.push(change)?;
-    let mut rest = others;
-    all.append(&mut rest)?;
-    Ok(all)
+    others.insert(0, change)?;
+    Ok(())
 }
 
-/// The dependent of an insert, with a serial, stands in front of those of its root.
-fn numbered(
-    alloc: Global,
+/// Puts the dependent of an insert, with a serial, in front of those of its root. The anchor's roots keep their shape.
+fn put_insert(
+    def: &DedbDef,
+    roots: &mut List<Root>,
     insert: &SeqInsert,
     serial: u64,
-    kept: Vec<AnchorChange>,
-    defs: &Defs,
-) -> Result<Vec<AnchorChange>, Fault>
-    requires { AreKept defs.now.dedbs kept.items }
-    ensures { IfOk result (λ all. AreKept defs.now.dedbs all.items) }
+) -> Result<(), Fault>
+    ensures { OnOk result ((anchor : ℕ) → is_anchor def.now anchor any_ends roots.old ≡ true
+        → is_anchor def.now anchor any_ends roots.new ≡ true) }
 {
-    if defs.dedbs.is_empty() {
-        return Err(Fault::Unfit);
-    }
-    let def = &defs.dedbs.as_slice()[0];
-    let anchor = insert.anchor;
-    let mut roots = roots_at(alloc, kept.as_slice(), anchor)?;
     let key = insert.key.as_slice();
     let Some(at) = place_of(def.segments.as_slice(), roots.as_slice(), key) else {
         return Err(Fault::Unfit);
     };
     let bytes = insert.bytes.copy()?;
-    put_at(def, &mut roots, at, serial, bytes)?;
+    put_at(def, roots, at, serial, bytes)
+}
+
+/// An insert gets the next serial, and its dependent stands in front of those of its root.
+fn number(
+    alloc: Global,
+    insert: &SeqInsert,
+    standing: &mut Standing,
+    defs: &Defs,
+) -> Result<(), Fault>
+    requires { AreKept defs.now.dedbs standing.old.anchors.items }
+    ensures { IfOk result (λ done. AreKept defs.now.dedbs standing.new.anchors.items) }
+{
+    if defs.dedbs.is_empty() {
+        return Err(Fault::Unfit);
+    }
+    let serial = standing.ends.end;
+    let anchor = insert.anchor;
+    let mut roots = roots_at(alloc, standing.anchors.as_slice(), anchor)?;
+    put_insert(&defs.dedbs.as_slice()[0], &mut roots, insert, serial)?;
     let change = AnchorChange {
         dedb: 0,
         anchor,
         roots,
     };
-    Ok(in_front(alloc, change, kept)?)
+    put_in_front(change, &mut standing.anchors)?;
+    standing.ends.end = serial.wrapping_add(1);
+    Ok(())
 }
 
 /// Each insert gets the next serial, in call order.
-fn with_inserts(
+fn number_all(
     alloc: Global,
     inserts: &[SeqInsert],
-    before: Standing,
+    standing: &mut Standing,
     defs: &Defs,
-) -> Result<Standing, Fault>
-    requires { AreKept defs.now.dedbs before.anchors.items }
-    ensures { IfOk result (λ after. AreKept defs.now.dedbs after.anchors.items) }
+) -> Result<(), Fault>
+    requires { AreKept defs.now.dedbs standing.old.anchors.items }
+    ensures { IfOk result (λ done. AreKept defs.now.dedbs standing.new.anchors.items) }
 {
-    let Standing {
-        mut anchors,
-        mut ends,
-    } = before;
     for insert in inserts {
-        anchors = numbered(alloc, insert, ends.end, anchors, defs)?;
-        ends.end = ends.end.wrapping_add(1);
+        number(alloc, insert, standing, defs)?;
     }
-    Ok(Standing { anchors, ends })
+    Ok(())
 }
 
 // ---- the end
 
-/// The changed anchors of a transaction in front of those before.
-fn in_front_of(
+/// Puts the changed anchors of a transaction in front of those before.
+fn put_all_in_front(
     changes: List<AnchorChange>,
-    kept: Vec<AnchorChange>,
-) -> Result<Vec<AnchorChange>, AllocError>
-    ensures { IfOk result (λ all. all.items ≡ changes ++ kept.items) }
+    others: &mut Vec<AnchorChange>,
+) -> Result<(), AllocError>
+    ensures { OnOk result (others.new.items ≡ changes ++ others.old.items) }
 {
-    let mut anchors = changes.into_vec();
-    let mut rest = kept;
-    anchors.append(&mut rest)?;
-    Ok(anchors)
+    let mut all = changes.into_vec();
+    all.append(others)?;
+    put(others, all);
+    Ok(())
 }
 
 /// Whether the sequential part has no room for so many more.
@@ -209,30 +205,43 @@ fn is_full(ends: AreaEnds, queued: usize) -> bool {
         > CAPACITY
 }
 
-/// Ends a transaction. Where the sequential part has no room for its inserts nothing changes.
-pub(crate) fn ended(alloc: Global, work: Work, before: Standing, defs: &Defs) -> Result<Left, Fault>
-    requires work { IsWorkOf defs.now work }
-    requires kept { AreKept defs.now.dedbs before.anchors.items }
+/// Settles what a transaction leaves, if the sequential part has room for its inserts, and says how many it had queued.
+fn settle(
+    alloc: Global,
+    parts: &mut Parts,
+    standing: &mut Standing,
+    defs: &Defs,
+) -> Result<usize, Fault>
+    requires kept { AreKept defs.now.dedbs standing.old.anchors.items }
+    requires left { AreKept defs.now.dedbs (parts.old.changes ++ standing.old.anchors.items) }
 
-    ensures { IfOk result (λ left. AreKept defs.now.dedbs left.standing.anchors.items) }
+    ensures { IfOk result (λ queued. AreKept defs.now.dedbs standing.new.anchors.items) }
 {
-    let parts = work.into_parts(alloc)?;
     let queued = parts.inserts.len();
-    let ends = before.ends;
-    if is_full(ends, queued) {
-        return Ok(Left {
-            standing: before,
-            queued,
-        });
+    if is_full(standing.ends, queued) {
+        return Ok(queued);
     }
-    let anchors = in_front_of(parts.changes, before.anchors)?;
-    let standing = with_inserts(
-        alloc,
-        parts.inserts.as_slice(),
-        Standing { anchors, ends },
-        defs,
-    )?;
-    Ok(Left { standing, queued })
+    let changes = mem::replace(&mut parts.changes, List::new(alloc));
+    put_all_in_front(changes, &mut standing.anchors)?;
+    number_all(alloc, parts.inserts.as_slice(), standing, defs)?;
+    Ok(queued)
+}
+
+/// Ends a transaction, and says how many sequential inserts it had queued. Where the sequential part has no room for
+/// them nothing changes.
+pub(crate) fn end(
+    alloc: Global,
+    work: Work,
+    standing: &mut Standing,
+    defs: &Defs,
+) -> Result<usize, Fault>
+    requires work { IsWorkOf defs.now work }
+    requires kept { AreKept defs.now.dedbs standing.old.anchors.items }
+
+    ensures { IfOk result (λ queued. AreKept defs.now.dedbs standing.new.anchors.items) }
+{
+    let mut parts = work.into_parts(alloc)?;
+    settle(alloc, &mut parts, standing, defs)
 }
 
 // ---- a purge
@@ -267,19 +276,17 @@ fn drop_old_at(roots: &mut List<Root>, at: usize, begin: u64)
 
 /// The sequential part begins at a later serial, and the dependents of an anchor before that go. No root has more of
 /// them than the part keeps.
-pub(crate) fn purged(
+pub(crate) fn purge(
     alloc: Global,
     anchor: u32,
     begin: u64,
-    before: Standing,
+    standing: &mut Standing,
     defs: &Defs,
-) -> Result<Standing, Fault>
-    requires { AreKept defs.now.dedbs before.anchors.items }
-    ensures { IfOk result (λ after. AreKept defs.now.dedbs after.anchors.items) }
+) -> Result<(), Fault>
+    requires { AreKept defs.now.dedbs standing.old.anchors.items }
+    ensures { IfOk result (λ done. AreKept defs.now.dedbs standing.new.anchors.items) }
 {
-    let Standing { anchors, mut ends } = before;
-    ends.begin = begin;
-    let mut roots = roots_at(alloc, anchors.as_slice(), anchor)?;
+    let mut roots = roots_at(alloc, standing.anchors.as_slice(), anchor)?;
     for _ in 0..CAPACITY {
         for at in 0..roots.len() {
             drop_old_at(&mut roots, at, begin);
@@ -290,6 +297,7 @@ pub(crate) fn purged(
         anchor,
         roots,
     };
-    let anchors = in_front(alloc, change, anchors)?;
-    Ok(Standing { anchors, ends })
+    put_in_front(change, &mut standing.anchors)?;
+    standing.ends.begin = begin;
+    Ok(())
 }

@@ -41,3 +41,19 @@ impl From<FromHexError> for Fault {
         }
     }
 }
+
+/// Want of memory as a fault.
+pub(crate) fn or_fault<T: Drop>(made: Result<T, AllocError>) -> Result<T, Fault> {
+    Ok(made?)
+}
+
+/// Puts a value in the place of another, which is let go. By an assignment, the caller would be proved over every part
+/// of the old value.
+pub(crate) fn put<T: Drop>(place: &mut T, value: T)
+    ensures { place.new ≡ value }
+{
+    *place = value;
+}
+
+/// Lets a value go, without the caller being proved over every part of it.
+pub(crate) fn let_go<T: Drop>(_value: T) {}

@@ -7,7 +7,7 @@
 ghost use Rattle.dedb_storm.specs.Bank.{AreBothGoing, AreKept, IsBank};
 ghost use Rattle.dedb_storm.specs.Bench.{IsUnderWay};
 ghost use Rattle.fp_exits.specs.Kinds.{has_kind, kinds_of};
-ghost use Rattle.fp_model.specs.WellFormed.{IsDedbDef};
+ghost use Rattle.fp_model.specs.WellFormed.{IsDedbDef, IsMsdbDef};
 ghost use Rattle.past_calls.specs.Progress.{IsWorkOf};
 ghost use Rattle.std.specs.List.{AllByRecursion};
 ghost use Rattle.std.specs.Prelude.{◌≡◌, ◌<◌, [], IfOk, length, true};
@@ -16,7 +16,7 @@ use crate::alone::{ask_alone, begin_alone, end_alone};
 use crate::bench::{ask, begin};
 use crate::cases::{call_of, came_of, number_of, numbers_text};
 use crate::ending::{Standing, empty};
-use crate::fault::Fault;
+use crate::fault::{Fault, let_go, or_fault, put};
 use crate::live::{both_begin, done_by};
 use crate::tally::{Line, Tally};
 use ci_locks::Locks;
@@ -27,7 +27,7 @@ use fp_exits::Exits;
 use fp_model::{Call, Defs};
 use msdb_store::MsdbStore;
 use past_calls::Work;
-use std::alloc::{AllocError, Global};
+use std::alloc::Global;
 use std::cell::Cell;
 
 /// How the lines of a file are asked.
@@ -66,26 +66,14 @@ impl Trail {
         }
     }
 
-    // What is looked at, if the line does so.
-    fn look(
-        &self,
-        alloc: Global,
-        what: &str,
-        randomized: &Cell<u64>,
-    ) -> Result<Option<String>, AllocError> {
-        match what {
-            "needed" => Ok(Some(numbers_text(alloc, &self.needed)?)),
-            "randomized" => {
-                let count = randomized.get().wrapping_sub(self.before);
-                Ok(Some(count.to_string(alloc)?))
-            }
-            _ => Ok(None),
-        }
+    // How often the randomizer was asked since it began.
+    fn count(&self, randomized: &Cell<u64>) -> u64 {
+        randomized.get().wrapping_sub(self.before)
     }
 }
 
-// The number of the database and the call of a line. It is one of the databases.
-fn numbered_call(alloc: Global, what: &str, defs: &Defs) -> Result<(u8, Call), Fault>
+// The number of the database, which is one of them, and the call behind it.
+fn numbered<'a>(what: &'a str, defs: &Defs) -> Result<(u8, &'a str), Fault>
     ensures { IfOk result (λ numbered. numbered.0 < length defs.now.dedbs) }
 {
     let (number, text) = what.split_once(' ').ok_or(Fault::NotRead)?;
@@ -93,7 +81,52 @@ fn numbered_call(alloc: Global, what: &str, defs: &Defs) -> Result<(u8, Call), F
     if usize::from(number) >= defs.dedbs.len() {
         return Err(Fault::NotRead);
     }
-    Ok((number, call_of(alloc, number, text)?))
+    Ok((number, text))
+}
+
+// What a call is answered, by the only region.
+fn locked_answer(
+    alloc: Global,
+    number: u8,
+    call: &Call,
+    work: &mut DedbWork,
+    locks: &mut Locks,
+    needed: &mut Vec<u32>,
+    defs: &Defs,
+    exits: &Exits,
+) -> Result<String, Fault>
+    requires defs { AllByRecursion IsDedbDef defs.now.dedbs }
+    requires exits { AllByRecursion (λ dedb. has_kind (kinds_of exits.now).spreaders dedb.randomizer ≡ true)
+        defs.now.dedbs }
+    requires some { number < length defs.now.dedbs }
+    requires going { IsUnderWay defs.now.dedbs work.old locks.old }
+
+    ensures { IfOk result (λ came. IsUnderWay defs.now.dedbs work.new locks.new) }
+{
+    let answer = ask(alloc, work, locks, number, call, defs, exits, needed)?;
+    or_fault(came_of(alloc, &answer))
+}
+
+// What comes of a call, by the only region.
+fn locked_call(
+    alloc: Global,
+    what: &str,
+    work: &mut DedbWork,
+    locks: &mut Locks,
+    needed: &mut Vec<u32>,
+    defs: &Defs,
+    exits: &Exits,
+) -> Result<String, Fault>
+    requires defs { AllByRecursion IsDedbDef defs.now.dedbs }
+    requires exits { AllByRecursion (λ dedb. has_kind (kinds_of exits.now).spreaders dedb.randomizer ≡ true)
+        defs.now.dedbs }
+    requires going { IsUnderWay defs.now.dedbs work.old locks.old }
+
+    ensures { IfOk result (λ came. IsUnderWay defs.now.dedbs work.new locks.new) }
+{
+    let (number, text) = numbered(what, defs)?;
+    let call = call_of(alloc, number, text)?;
+    locked_answer(alloc, number, &call, work, locks, needed, defs, exits)
 }
 
 // What comes of a line, by the only region.
@@ -114,48 +147,106 @@ fn locked_step(
 
     ensures { IfOk result (λ came. IsUnderWay defs.now.dedbs work.new locks.new) }
 {
-    if what == "queued" {
-        return Ok(work.inserts().len().to_string(alloc)?);
+    match what {
+        "needed" => or_fault(numbers_text(alloc, &trail.needed)),
+        "randomized" => or_fault(trail.count(randomized).to_string(alloc)),
+        "queued" => or_fault(work.inserts().len().to_string(alloc)),
+        _ => locked_call(alloc, what, work, locks, &mut trail.needed, defs, exits),
     }
-    if let Some(came) = trail.look(alloc, what, randomized)? {
-        return Ok(came);
+}
+
+// A scenario begins: a transaction, and no lock held.
+fn locked_begin(
+    alloc: Global,
+    work: &mut DedbWork,
+    locks: &mut Locks,
+    trail: &mut Trail,
+    defs: &Defs,
+    randomized: &Cell<u64>,
+) -> Result<(), Fault>
+    ensures { IfOk result (λ begun. IsUnderWay defs.now.dedbs work.new locks.new) }
+{
+    let (fresh, free) = begin(alloc, defs)?;
+    put(work, fresh);
+    put(locks, free);
+    put(trail, Trail::new(alloc, randomized));
+    Ok(())
+}
+
+// Reads a line of a file and judges it by the only region, or begins the next scenario.
+fn locked_line(
+    alloc: Global,
+    text: &str,
+    tally: &mut Tally,
+    work: &mut DedbWork,
+    locks: &mut Locks,
+    trail: &mut Trail,
+    defs: &Defs,
+    exits: &Exits,
+    randomized: &Cell<u64>,
+) -> Result<(), Fault>
+    requires defs { AllByRecursion IsDedbDef defs.now.dedbs }
+    requires exits { AllByRecursion (λ dedb. has_kind (kinds_of exits.now).spreaders dedb.randomizer ≡ true)
+        defs.now.dedbs }
+    requires going { IsUnderWay defs.now.dedbs work.old locks.old }
+
+    ensures { IfOk result (λ done. IsUnderWay defs.now.dedbs work.new locks.new) }
+{
+    match tally.read(alloc, text)? {
+        Line::Begin => locked_begin(alloc, work, locks, trail, defs, randomized),
+        Line::Step { what, wanted } => {
+            let came = locked_step(alloc, what, work, locks, trail, defs, exits, randomized)?;
+            or_fault(tally.judge(alloc, what, wanted, &came))
+        }
     }
-    let (number, call) = numbered_call(alloc, what, defs)?;
-    let needed = &mut trail.needed;
-    let answer = ask(alloc, work, locks, number, &call, defs, exits, needed)?;
-    Ok(came_of(alloc, &answer)?)
+}
+
+// Judges the lines of a file by the only region, one after another.
+fn locked_lines(
+    alloc: Global,
+    lines: &str,
+    tally: &mut Tally,
+    work: &mut DedbWork,
+    locks: &mut Locks,
+    trail: &mut Trail,
+    defs: &Defs,
+    exits: &Exits,
+    randomized: &Cell<u64>,
+) -> Result<(), Fault>
+    requires defs { AllByRecursion IsDedbDef defs.now.dedbs }
+    requires exits { AllByRecursion (λ dedb. has_kind (kinds_of exits.now).spreaders dedb.randomizer ≡ true)
+        defs.now.dedbs }
+    requires going { IsUnderWay defs.now.dedbs work.old locks.old }
+{
+    for text in lines.lines() {
+        locked_line(
+            alloc, text, tally, work, locks, trail, defs, exits, randomized,
+        )?;
+    }
+    Ok(())
 }
 
 // Judges the lines of a file by the only region.
 fn judge_locked(
     alloc: Global,
-    asked: &Asked<'_>,
+    lines: &str,
+    tally: &mut Tally,
     defs: &Defs,
     exits: &Exits,
     randomized: &Cell<u64>,
-) -> Result<Tally, Fault>
+) -> Result<(), Fault>
     requires defs { AllByRecursion IsDedbDef defs.now.dedbs }
     requires exits { AllByRecursion (λ dedb. has_kind (kinds_of exits.now).spreaders dedb.randomizer ≡ true)
         defs.now.dedbs }
 {
-    let mut tally = Tally::new(alloc, asked.name);
     let (mut work, mut locks) = begin(alloc, defs)?;
     let mut trail = Trail::new(alloc, randomized);
-    for text in asked.lines.lines() {
-        match tally.read(alloc, text)? {
-            Line::Begin => {
-                (work, locks) = begin(alloc, defs)?;
-                trail = Trail::new(alloc, randomized);
-            }
-            Line::Step { what, wanted } => {
-                let came = locked_step(
-                    alloc, what, &mut work, &mut locks, &mut trail, defs, exits, randomized,
-                )?;
-                tally.judge(alloc, what, wanted, &came)?;
-            }
-        }
-    }
-    Ok(tally)
+    let judged = locked_lines(
+        alloc, lines, tally, &mut work, &mut locks, &mut trail, defs, exits, randomized,
+    );
+    let_go(locks);
+    let_go(work);
+    judged
 }
 
 // How many sequential inserts a transaction that ran alone had queued. Another begins.
@@ -164,6 +255,27 @@ fn alone_queued(alloc: Global, work: &mut Work, defs: &Defs) -> Result<String, F
 {
     let queued = end_alone(alloc, work, defs)?;
     Ok(queued.to_string(alloc)?)
+}
+
+// What a call is answered, by a transaction that runs alone.
+fn alone_answer(
+    alloc: Global,
+    call: &Call,
+    work: &mut Work,
+    needed: &mut Vec<u32>,
+    defs: &Defs,
+    exits: &Exits,
+) -> Result<String, Fault>
+    requires none { defs.now.msdbs ≡ [] }
+    requires dedbs { AllByRecursion IsDedbDef defs.now.dedbs }
+    requires exits { AllByRecursion (λ dedb. has_kind (kinds_of exits.now).spreaders dedb.randomizer ≡ true)
+        defs.now.dedbs }
+    requires going { IsWorkOf defs.now work.old }
+
+    ensures { IfOk result (λ came. IsWorkOf defs.now work.new) }
+{
+    let answer = ask_alone(alloc, work, call, defs, exits, needed)?;
+    or_fault(came_of(alloc, &answer))
 }
 
 // What comes of a call, by a transaction that runs alone.
@@ -183,9 +295,9 @@ fn alone_call(
 
     ensures { IfOk result (λ came. IsWorkOf defs.now work.new) }
 {
-    let (_, call) = numbered_call(alloc, what, defs)?;
-    let answer = ask_alone(alloc, work, &call, defs, exits, needed)?;
-    Ok(came_of(alloc, &answer)?)
+    let (number, text) = numbered(what, defs)?;
+    let call = call_of(alloc, number, text)?;
+    alone_answer(alloc, &call, work, needed, defs, exits)
 }
 
 // What comes of a line, by a transaction that runs alone.
@@ -206,92 +318,113 @@ fn alone_step(
 
     ensures { IfOk result (λ came. IsWorkOf defs.now work.new) }
 {
-    if what == "queued" {
-        return alone_queued(alloc, work, defs);
+    match what {
+        "needed" => or_fault(numbers_text(alloc, &trail.needed)),
+        "randomized" => or_fault(trail.count(randomized).to_string(alloc)),
+        "queued" => alone_queued(alloc, work, defs),
+        _ => alone_call(alloc, what, work, &mut trail.needed, defs, exits),
     }
-    if let Some(came) = trail.look(alloc, what, randomized)? {
-        return Ok(came);
+}
+
+// Reads a line of a file and judges it by a transaction that runs alone, or begins the next scenario.
+fn alone_line(
+    alloc: Global,
+    text: &str,
+    tally: &mut Tally,
+    work: &mut Work,
+    trail: &mut Trail,
+    defs: &Defs,
+    exits: &Exits,
+    randomized: &Cell<u64>,
+) -> Result<(), Fault>
+    requires none { defs.now.msdbs ≡ [] }
+    requires dedbs { AllByRecursion IsDedbDef defs.now.dedbs }
+    requires exits { AllByRecursion (λ dedb. has_kind (kinds_of exits.now).spreaders dedb.randomizer ≡ true)
+        defs.now.dedbs }
+    requires going { IsWorkOf defs.now work.old }
+
+    ensures { IfOk result (λ done. IsWorkOf defs.now work.new) }
+{
+    match tally.read(alloc, text)? {
+        Line::Begin => {
+            put(work, begin_alone(alloc, defs)?);
+            put(trail, Trail::new(alloc, randomized));
+            Ok(())
+        }
+        Line::Step { what, wanted } => {
+            let came = alone_step(alloc, what, work, trail, defs, exits, randomized)?;
+            or_fault(tally.judge(alloc, what, wanted, &came))
+        }
     }
-    alone_call(alloc, what, work, &mut trail.needed, defs, exits)
+}
+
+// Judges the lines of a file by transactions that run alone, one after another.
+fn alone_lines(
+    alloc: Global,
+    lines: &str,
+    tally: &mut Tally,
+    work: &mut Work,
+    trail: &mut Trail,
+    defs: &Defs,
+    exits: &Exits,
+    randomized: &Cell<u64>,
+) -> Result<(), Fault>
+    requires none { defs.now.msdbs ≡ [] }
+    requires dedbs { AllByRecursion IsDedbDef defs.now.dedbs }
+    requires exits { AllByRecursion (λ dedb. has_kind (kinds_of exits.now).spreaders dedb.randomizer ≡ true)
+        defs.now.dedbs }
+    requires going { IsWorkOf defs.now work.old }
+{
+    for text in lines.lines() {
+        alone_line(alloc, text, tally, work, trail, defs, exits, randomized)?;
+    }
+    Ok(())
 }
 
 // Judges the lines of a file by transactions that run alone.
 fn judge_alone(
     alloc: Global,
-    asked: &Asked<'_>,
+    lines: &str,
+    tally: &mut Tally,
     defs: &Defs,
     exits: &Exits,
     randomized: &Cell<u64>,
-) -> Result<Tally, Fault>
+) -> Result<(), Fault>
     requires none { defs.now.msdbs ≡ [] }
     requires dedbs { AllByRecursion IsDedbDef defs.now.dedbs }
     requires exits { AllByRecursion (λ dedb. has_kind (kinds_of exits.now).spreaders dedb.randomizer ≡ true)
         defs.now.dedbs }
 {
-    let mut tally = Tally::new(alloc, asked.name);
     let mut work = begin_alone(alloc, defs)?;
     let mut trail = Trail::new(alloc, randomized);
-    for text in asked.lines.lines() {
-        match tally.read(alloc, text)? {
-            Line::Begin => {
-                work = begin_alone(alloc, defs)?;
-                trail = Trail::new(alloc, randomized);
-            }
-            Line::Step { what, wanted } => {
-                let came = alone_step(alloc, what, &mut work, &mut trail, defs, exits, randomized)?;
-                tally.judge(alloc, what, wanted, &came)?;
-            }
-        }
-    }
-    Ok(tally)
+    let judged = alone_lines(
+        alloc, lines, tally, &mut work, &mut trail, defs, exits, randomized,
+    );
+    let_go(work);
+    judged
 }
 
-// A scenario begins: each region with a transaction of its own, and no lock held.
+// A scenario begins: each region with a transaction of its own, no lock held, and nothing that stands.
 fn turns_begin(
     alloc: Global,
     first: &mut RegionWork,
     second: &mut RegionWork,
     locks: &mut Locks,
+    standing: &mut Standing,
     defs: &Defs,
-) -> Result<(), AllocError>
-    ensures { IfOk result (λ begun. AreBothGoing defs.now first.new second.new locks.new) }
+) -> Result<(), Fault>
+    ensures going { IfOk result (λ begun. AreBothGoing defs.now first.new second.new locks.new) }
+    ensures kept { IfOk result (λ begun. AreKept defs.now.dedbs standing.new.anchors.items) }
 {
     let (one, two, free) = both_begin(alloc, defs)?;
-    *first = one;
-    *second = two;
-    *locks = free;
+    put(first, one);
+    put(second, two);
+    put(locks, free);
+    put(standing, empty(alloc));
     Ok(())
 }
 
-// Judges what comes of a line of a scenario, and says what stands behind it.
-fn turns_step(
-    alloc: Global,
-    what: &str,
-    wanted: &str,
-    tally: &mut Tally,
-    first: &mut RegionWork,
-    second: &mut RegionWork,
-    locks: &mut Locks,
-    before: Standing,
-    store: &MsdbStore,
-    defs: &Defs,
-    exits: &Exits,
-) -> Result<Standing, Fault>
-    requires bank { IsBank defs.now store.now (kinds_of exits.now) }
-    requires going { AreBothGoing defs.now first.old second.old locks.old }
-    requires kept { AreKept defs.now.dedbs before.anchors.items }
-
-    ensures going { IfOk result (λ standing. AreBothGoing defs.now first.new second.new locks.new) }
-    ensures kept { IfOk result (λ standing. AreKept defs.now.dedbs standing.anchors.items) }
-{
-    let came = done_by(
-        alloc, what, first, second, locks, before, store, defs, exits,
-    )?;
-    tally.judge(alloc, what, wanted, &came.text)?;
-    Ok(came.standing)
-}
-
-// Reads a line of a scenario and judges it, or begins the next scenario; and says what stands behind it.
+// Reads a line of a scenario and judges it, or begins the next scenario.
 fn turns_line(
     alloc: Global,
     text: &str,
@@ -299,86 +432,138 @@ fn turns_line(
     first: &mut RegionWork,
     second: &mut RegionWork,
     locks: &mut Locks,
-    before: Standing,
+    standing: &mut Standing,
     store: &MsdbStore,
     defs: &Defs,
     exits: &Exits,
-) -> Result<Standing, Fault>
+) -> Result<(), Fault>
     requires bank { IsBank defs.now store.now (kinds_of exits.now) }
     requires going { AreBothGoing defs.now first.old second.old locks.old }
-    requires kept { AreKept defs.now.dedbs before.anchors.items }
+    requires kept { AreKept defs.now.dedbs standing.old.anchors.items }
 
-    ensures going { IfOk result (λ standing. AreBothGoing defs.now first.new second.new locks.new) }
-    ensures kept { IfOk result (λ standing. AreKept defs.now.dedbs standing.anchors.items) }
+    ensures going { IfOk result (λ done. AreBothGoing defs.now first.new second.new locks.new) }
+    ensures kept { IfOk result (λ done. AreKept defs.now.dedbs standing.new.anchors.items) }
 {
     match tally.read(alloc, text)? {
-        Line::Begin => {
-            turns_begin(alloc, first, second, locks, defs)?;
-            Ok(empty(alloc))
+        Line::Begin => turns_begin(alloc, first, second, locks, standing, defs),
+        Line::Step { what, wanted } => {
+            let came = done_by(
+                alloc, what, first, second, locks, standing, store, defs, exits,
+            )?;
+            or_fault(tally.judge(alloc, what, wanted, &came))
         }
-        Line::Step { what, wanted } => turns_step(
-            alloc, what, wanted, tally, first, second, locks, before, store, defs, exits,
-        ),
     }
+}
+
+// Judges the lines of a file by two regions, one after another.
+fn turns_lines(
+    alloc: Global,
+    lines: &str,
+    tally: &mut Tally,
+    first: &mut RegionWork,
+    second: &mut RegionWork,
+    locks: &mut Locks,
+    standing: &mut Standing,
+    store: &MsdbStore,
+    defs: &Defs,
+    exits: &Exits,
+) -> Result<(), Fault>
+    requires bank { IsBank defs.now store.now (kinds_of exits.now) }
+    requires going { AreBothGoing defs.now first.old second.old locks.old }
+    requires kept { AreKept defs.now.dedbs standing.old.anchors.items }
+{
+    for text in lines.lines() {
+        turns_line(
+            alloc, text, tally, first, second, locks, standing, store, defs, exits,
+        )?;
+    }
+    Ok(())
 }
 
 // Judges the scenarios of a file, each on anchors without roots and with no lock held.
 fn judge_turns(
     alloc: Global,
-    asked: &Asked<'_>,
+    lines: &str,
+    tally: &mut Tally,
     store: &MsdbStore,
     defs: &Defs,
     exits: &Exits,
-) -> Result<Tally, Fault>
+) -> Result<(), Fault>
     requires { IsBank defs.now store.now (kinds_of exits.now) }
 {
-    let mut tally = Tally::new(alloc, asked.name);
-    let (mut first, mut second, mut locks) = both_begin(alloc, defs)?;
+    let mut begun = both_begin(alloc, defs)?;
     let mut standing = empty(alloc);
-    for text in asked.lines.lines() {
-        standing = turns_line(
-            alloc,
-            text,
-            &mut tally,
-            &mut first,
-            &mut second,
-            &mut locks,
-            standing,
-            store,
-            defs,
-            exits,
-        )?;
-    }
-    Ok(tally)
+    let judged = turns_lines(
+        alloc,
+        lines,
+        tally,
+        &mut begun.0,
+        &mut begun.1,
+        &mut begun.2,
+        &mut standing,
+        store,
+        defs,
+        exits,
+    );
+    let_go(standing);
+    let_go(begun);
+    judged
 }
 
-// The databases that definitions say, as they start.
-fn bank(alloc: Global, definitions: &[u8], exits: &Exits) -> Result<(Defs, MsdbStore), Fault>
-    ensures { IfOk result (λ bank. IsBank bank.0 bank.1 (kinds_of exits.now)) }
-{
-    let Ok(defs) = read_defs(alloc, definitions, exits) else {
-        return Err(Fault::NotRead);
-    };
-    let store = MsdbStore::start(alloc, &defs)?;
-    Ok((defs, store))
-}
-
-/// Judges the lines of a file, in its way.
-pub(crate) fn judged(
+// Judges the lines of a file, in its way, by databases as they start.
+fn judge_by(
     alloc: Global,
     asked: &Asked<'_>,
+    tally: &mut Tally,
+    store: &MsdbStore,
+    defs: &Defs,
     exits: &Exits,
     randomized: &Cell<u64>,
-) -> Result<Tally, Fault> {
-    let (defs, store) = bank(alloc, asked.definitions, exits)?;
+) -> Result<(), Fault>
+    requires { IsBank defs.now store.now (kinds_of exits.now) }
+{
     match asked.way {
-        Way::Locked => judge_locked(alloc, asked, &defs, exits, randomized),
+        Way::Locked => judge_locked(alloc, asked.lines, tally, defs, exits, randomized),
         Way::Alone => {
             if !defs.msdbs.is_empty() {
                 return Err(Fault::NotRead);
             }
-            judge_alone(alloc, asked, &defs, exits, randomized)
+            judge_alone(alloc, asked.lines, tally, defs, exits, randomized)
         }
-        Way::Turns => judge_turns(alloc, asked, &store, &defs, exits),
+        Way::Turns => judge_turns(alloc, asked.lines, tally, store, defs, exits),
     }
+}
+
+// Judges the lines of a file, in its way, by databases of these definitions.
+fn judge_defined(
+    alloc: Global,
+    asked: &Asked<'_>,
+    tally: &mut Tally,
+    defs: &Defs,
+    exits: &Exits,
+    randomized: &Cell<u64>,
+) -> Result<(), Fault>
+    requires msdbs { AllByRecursion IsMsdbDef defs.now.msdbs }
+    requires dedbs { AllByRecursion IsDedbDef defs.now.dedbs }
+    requires exits { AllByRecursion (λ dedb. has_kind (kinds_of exits.now).spreaders dedb.randomizer ≡ true)
+        defs.now.dedbs }
+{
+    let store = MsdbStore::start(alloc, defs)?;
+    judge_by(alloc, asked, tally, &store, defs, exits, randomized)
+}
+
+/// Judges the lines of a file, in its way.
+pub(crate) fn judge_file(
+    alloc: Global,
+    asked: &Asked<'_>,
+    tally: &mut Tally,
+    exits: &Exits,
+    randomized: &Cell<u64>,
+) -> Result<(), Fault> {
+    let Ok(defs) = read_defs(alloc, asked.definitions, exits) else {
+        return Err(Fault::NotRead);
+    };
+    let judged = judge_defined(alloc, asked, tally, &defs, exits, randomized);
+    let_go(defs);
+    judged
 }

@@ -16,13 +16,13 @@ ghost use Rattle.std.specs.Prelude.{◌≡◌, IfOk};
 
 use crate::bank::{CUST, OTHER, REGION, Turn, free_locks, roots_at, take_turns};
 use crate::cases::{call_of, came_of, numbers_text};
-use crate::ending::{Standing, ended, purged};
-use crate::fault::Fault;
+use crate::ending::{Standing, end, purge};
+use crate::fault::{Fault, let_go, or_fault};
 use crate::texts::put_bytes;
 use ci_locks::Locks;
 use dli_calls::Work;
 use fp_exits::Exits;
-use fp_model::{Bytes, Call, Defs, Root};
+use fp_model::{AnchorChange, Bytes, Call, Defs, Root};
 use msdb_store::MsdbStore;
 use std::alloc::{AllocError, Global};
 use std::mem;
@@ -30,44 +30,7 @@ use std::mem;
 // A call is answered by so many turns at most.
 const MOST_TURNS: u8 = 20;
 
-/// What a region does.
-#[derive(Drop)]
-enum Doing {
-    /// It takes so many turns at most with a call.
-    Call { call: Call, turns: u8 },
-    /// Its transaction ends, and its changes stand.
-    Commit,
-    /// Its transaction ends, and changes nothing.
-    Refusal,
-}
-
-/// What stands behind a line, and what came of it.
-#[derive(Drop)]
-pub(crate) struct Came {
-    pub(crate) standing: Standing,
-    pub(crate) text: String,
-}
-
-// ---- lines as they are read, and what comes of them as it is written
-
-fn doing_of(alloc: Global, text: &str) -> Result<Doing, Fault> {
-    if text == "commits" {
-        return Ok(Doing::Commit);
-    }
-    if text == "is refused" {
-        return Ok(Doing::Refusal);
-    }
-    let (word, call) = text.split_once(' ').ok_or(Fault::NotRead)?;
-    let call = call_of(alloc, CUST, call)?;
-    match word {
-        "asks" => Ok(Doing::Call {
-            call,
-            turns: MOST_TURNS,
-        }),
-        "turn" => Ok(Doing::Call { call, turns: 1 }),
-        _ => Err(Fault::NotRead),
-    }
-}
+// ---- what comes of a line, as it is written
 
 fn regions_text(alloc: Global, word: &str, regions: &Bytes) -> Result<String, AllocError> {
     let mut numbers = Vec::new(alloc);
@@ -122,133 +85,232 @@ fn next(
     Ok(mem::replace(work, fresh))
 }
 
-/// What a region does, and what stands behind it.
-fn done(
+/// A region takes so many turns at most with a call.
+fn turns_done(
     alloc: Global,
+    turns: u8,
     region: u8,
-    doing: &Doing,
+    call: &Call,
     work: &mut Work,
     locks: &mut Locks,
-    before: Standing,
+    standing: &Standing,
     store: &MsdbStore,
     defs: &Defs,
     exits: &Exits,
-) -> Result<Came, Fault>
+) -> Result<String, Fault>
     requires bank { IsBank defs.now store.now (kinds_of exits.now) }
     requires going { IsGoing defs.now region work.old locks.old }
-    requires kept { AreKept defs.now.dedbs before.anchors.items }
+    requires kept { AreKept defs.now.dedbs standing.now.anchors.items }
 
     ensures going { IfOk result (λ came. IsGoing defs.now region work.new locks.new) }
     ensures others { IfOk result (λ came. KeepsOthers region locks.old locks.new) }
-    ensures kept { IfOk result (λ came. AreKept defs.now.dedbs came.standing.anchors.items) }
 {
-    match doing {
-        Doing::Call { call, turns } => {
-            let kept = before.anchors.as_slice();
-            let turn = take_turns(
-                alloc, *turns, region, work, locks, call, kept, store, defs, exits,
-            )?;
-            Ok(Came {
-                standing: before,
-                text: turn_text(alloc, &turn)?,
-            })
-        }
-        Doing::Commit => {
-            let was = next(alloc, region, work, locks, defs)?;
-            let left = ended(alloc, was, before, defs)?;
-            Ok(Came {
-                standing: left.standing,
-                text: format!(in alloc; "{} queued", left.queued)?,
-            })
-        }
-        Doing::Refusal => {
-            let _ = next(alloc, region, work, locks, defs)?;
-            Ok(Came {
-                standing: before,
-                text: String::from_str(alloc, "done")?,
-            })
-        }
+    let kept = standing.anchors.as_slice();
+    let turn = take_turns(
+        alloc, turns, region, work, locks, call, kept, store, defs, exits,
+    )?;
+    or_fault(turn_text(alloc, &turn))
+}
+
+/// The turns that a word allows at most.
+fn turns_of(word: &str) -> Result<u8, Fault> {
+    match word {
+        "asks" => Ok(MOST_TURNS),
+        "turn" => Ok(1),
+        _ => Err(Fault::NotRead),
+    }
+}
+
+/// A region takes turns with a call, as a text says.
+fn call_done(
+    alloc: Global,
+    region: u8,
+    text: &str,
+    work: &mut Work,
+    locks: &mut Locks,
+    standing: &Standing,
+    store: &MsdbStore,
+    defs: &Defs,
+    exits: &Exits,
+) -> Result<String, Fault>
+    requires bank { IsBank defs.now store.now (kinds_of exits.now) }
+    requires going { IsGoing defs.now region work.old locks.old }
+    requires kept { AreKept defs.now.dedbs standing.now.anchors.items }
+
+    ensures going { IfOk result (λ came. IsGoing defs.now region work.new locks.new) }
+    ensures others { IfOk result (λ came. KeepsOthers region locks.old locks.new) }
+{
+    let (word, text) = text.split_once(' ').ok_or(Fault::NotRead)?;
+    let turns = turns_of(word)?;
+    let call = call_of(alloc, CUST, text)?;
+    turns_done(
+        alloc, turns, region, &call, work, locks, standing, store, defs, exits,
+    )
+}
+
+/// The transaction of a region ends, and its changes stand.
+fn commit_done(
+    alloc: Global,
+    region: u8,
+    work: &mut Work,
+    locks: &mut Locks,
+    standing: &mut Standing,
+    defs: &Defs,
+) -> Result<String, Fault>
+    requires going { IsGoing defs.now region work.old locks.old }
+    requires kept { AreKept defs.now.dedbs standing.old.anchors.items }
+
+    ensures going { IfOk result (λ came. IsGoing defs.now region work.new locks.new) }
+    ensures others { IfOk result (λ came. KeepsOthers region locks.old locks.new) }
+    ensures kept { IfOk result (λ came. AreKept defs.now.dedbs standing.new.anchors.items) }
+{
+    let was = next(alloc, region, work, locks, defs)?;
+    let queued = end(alloc, was, standing, defs)?;
+    or_fault(format!(in alloc; "{queued} queued"))
+}
+
+/// The transaction of a region ends, and changes nothing.
+fn refusal_done(
+    alloc: Global,
+    region: u8,
+    work: &mut Work,
+    locks: &mut Locks,
+    defs: &Defs,
+) -> Result<String, Fault>
+    requires { IsGoing defs.now region work.old locks.old }
+
+    ensures going { IfOk result (λ came. IsGoing defs.now region work.new locks.new) }
+    ensures others { IfOk result (λ came. KeepsOthers region locks.old locks.new) }
+{
+    let_go(next(alloc, region, work, locks, defs)?);
+    or_fault(String::from_str(alloc, "done"))
+}
+
+/// What a region does.
+fn done(
+    alloc: Global,
+    region: u8,
+    text: &str,
+    work: &mut Work,
+    locks: &mut Locks,
+    standing: &mut Standing,
+    store: &MsdbStore,
+    defs: &Defs,
+    exits: &Exits,
+) -> Result<String, Fault>
+    requires bank { IsBank defs.now store.now (kinds_of exits.now) }
+    requires going { IsGoing defs.now region work.old locks.old }
+    requires kept { AreKept defs.now.dedbs standing.old.anchors.items }
+
+    ensures going { IfOk result (λ came. IsGoing defs.now region work.new locks.new) }
+    ensures others { IfOk result (λ came. KeepsOthers region locks.old locks.new) }
+    ensures kept { IfOk result (λ came. AreKept defs.now.dedbs standing.new.anchors.items) }
+{
+    match text {
+        "commits" => commit_done(alloc, region, work, locks, standing, defs),
+        "is refused" => refusal_done(alloc, region, work, locks, defs),
+        _ => call_done(
+            alloc, region, text, work, locks, standing, store, defs, exits,
+        ),
     }
 }
 
 // ---- two regions
 
-/// What the first region does, and what stands behind it.
+/// What the first region does.
 fn first_does(
     alloc: Global,
-    doing: &Doing,
+    text: &str,
     first: &mut Work,
     second: &Work,
     locks: &mut Locks,
-    before: Standing,
+    standing: &mut Standing,
     store: &MsdbStore,
     defs: &Defs,
     exits: &Exits,
-) -> Result<Came, Fault>
+) -> Result<String, Fault>
     requires bank { IsBank defs.now store.now (kinds_of exits.now) }
     requires going { AreBothGoing defs.now first.old second.now locks.old }
-    requires kept { AreKept defs.now.dedbs before.anchors.items }
+    requires kept { AreKept defs.now.dedbs standing.old.anchors.items }
 
     ensures going { IfOk result (λ came. AreBothGoing defs.now first.new second.now locks.new) }
-    ensures kept { IfOk result (λ came. AreKept defs.now.dedbs came.standing.anchors.items) }
+    ensures kept { IfOk result (λ came. AreKept defs.now.dedbs standing.new.anchors.items) }
 {
     let _ = second;
     let came = done(
-        alloc, REGION, doing, first, locks, before, store, defs, exits,
+        alloc, REGION, text, first, locks, standing, store, defs, exits,
     )?;
     Ok(came)
 }
 
-/// What the second region does, and what stands behind it.
+/// What the second region does.
 fn second_does(
     alloc: Global,
-    doing: &Doing,
+    text: &str,
     first: &Work,
     second: &mut Work,
     locks: &mut Locks,
-    before: Standing,
+    standing: &mut Standing,
     store: &MsdbStore,
     defs: &Defs,
     exits: &Exits,
-) -> Result<Came, Fault>
+) -> Result<String, Fault>
     requires bank { IsBank defs.now store.now (kinds_of exits.now) }
     requires going { AreBothGoing defs.now first.now second.old locks.old }
-    requires kept { AreKept defs.now.dedbs before.anchors.items }
+    requires kept { AreKept defs.now.dedbs standing.old.anchors.items }
 
     ensures going { IfOk result (λ came. AreBothGoing defs.now first.now second.new locks.new) }
-    ensures kept { IfOk result (λ came. AreKept defs.now.dedbs came.standing.anchors.items) }
+    ensures kept { IfOk result (λ came. AreKept defs.now.dedbs standing.new.anchors.items) }
 {
     let _ = first;
     let came = done(
-        alloc, OTHER, doing, second, locks, before, store, defs, exits,
+        alloc, OTHER, text, second, locks, standing, store, defs, exits,
     )?;
     Ok(came)
 }
 
-/// A line on the databases alone: a purge, or a look at the roots of an anchor. None where it is of another kind.
-fn looked_at(alloc: Global, text: &str, before: Standing, defs: &Defs) -> Result<Came, Fault>
-    requires { AreKept defs.now.dedbs before.anchors.items }
-    ensures { IfOk result (λ came. AreKept defs.now.dedbs came.standing.anchors.items) }
+/// A purge, of an anchor up to a serial.
+fn purge_done(
+    alloc: Global,
+    text: &str,
+    standing: &mut Standing,
+    defs: &Defs,
+) -> Result<String, Fault>
+    requires { AreKept defs.now.dedbs standing.old.anchors.items }
+    ensures { IfOk result (λ came. AreKept defs.now.dedbs standing.new.anchors.items) }
+{
+    let (anchor, begin) = text.split_once(' ').ok_or(Fault::NotRead)?;
+    let (Ok(anchor), Ok(begin)) = (anchor.parse::<u32>(), begin.parse::<u64>()) else {
+        return Err(Fault::NotRead);
+    };
+    purge(alloc, anchor, begin, standing, defs)?;
+    or_fault(String::from_str(alloc, "done"))
+}
+
+/// A look at the roots of an anchor.
+fn roots_shown(alloc: Global, anchor: &str, kept: &[AnchorChange]) -> Result<String, Fault> {
+    let Ok(anchor) = anchor.parse::<u32>() else {
+        return Err(Fault::NotRead);
+    };
+    let roots = roots_at(alloc, kept, anchor)?;
+    or_fault(roots_text(alloc, roots.as_slice()))
+}
+
+/// A line on the databases alone: a purge, or a look at the roots of an anchor.
+fn looked_at(
+    alloc: Global,
+    text: &str,
+    standing: &mut Standing,
+    defs: &Defs,
+) -> Result<String, Fault>
+    requires { AreKept defs.now.dedbs standing.old.anchors.items }
+    ensures { IfOk result (λ came. AreKept defs.now.dedbs standing.new.anchors.items) }
 {
     let (word, rest) = text.split_once(' ').ok_or(Fault::NotRead)?;
     if word == "purge" {
-        let (anchor, begin) = rest.split_once(' ').ok_or(Fault::NotRead)?;
-        let (Ok(anchor), Ok(begin)) = (anchor.parse::<u32>(), begin.parse::<u64>()) else {
-            return Err(Fault::NotRead);
-        };
-        return Ok(Came {
-            standing: purged(alloc, anchor, begin, before, defs)?,
-            text: String::from_str(alloc, "done")?,
-        });
+        return purge_done(alloc, rest, standing, defs);
     }
-    let Ok(anchor) = rest.parse::<u32>() else {
-        return Err(Fault::NotRead);
-    };
-    let roots = roots_at(alloc, before.anchors.as_slice(), anchor)?;
-    Ok(Came {
-        standing: before,
-        text: roots_text(alloc, roots.as_slice())?,
-    })
+    roots_shown(alloc, rest, standing.anchors.as_slice())
 }
 
 /// What comes of a line.
@@ -258,39 +320,37 @@ pub(crate) fn done_by(
     first: &mut Work,
     second: &mut Work,
     locks: &mut Locks,
-    before: Standing,
+    standing: &mut Standing,
     store: &MsdbStore,
     defs: &Defs,
     exits: &Exits,
-) -> Result<Came, Fault>
+) -> Result<String, Fault>
     requires bank { IsBank defs.now store.now (kinds_of exits.now) }
     requires going { AreBothGoing defs.now first.old second.old locks.old }
-    requires kept { AreKept defs.now.dedbs before.anchors.items }
+    requires kept { AreKept defs.now.dedbs standing.old.anchors.items }
 
     ensures going { IfOk result (λ came. AreBothGoing defs.now first.new second.new locks.new) }
-    ensures kept { IfOk result (λ came. AreKept defs.now.dedbs came.standing.anchors.items) }
+    ensures kept { IfOk result (λ came. AreKept defs.now.dedbs standing.new.anchors.items) }
 {
     if let Some(text) = text.strip_prefix("1 ") {
-        let doing = doing_of(alloc, text)?;
         return first_does(
-            alloc, &doing, first, second, locks, before, store, defs, exits,
+            alloc, text, first, second, locks, standing, store, defs, exits,
         );
     }
     if let Some(text) = text.strip_prefix("2 ") {
-        let doing = doing_of(alloc, text)?;
         return second_does(
-            alloc, &doing, first, second, locks, before, store, defs, exits,
+            alloc, text, first, second, locks, standing, store, defs, exits,
         );
     }
-    looked_at(alloc, text, before, defs)
+    looked_at(alloc, text, standing, defs)
 }
 
 /// A transaction of each region, and locks of which none is held.
 pub(crate) fn both_begin(alloc: Global, defs: &Defs) -> Result<(Work, Work, Locks), AllocError>
     ensures { IfOk result (λ begun. AreBothGoing defs.now begun.0 begun.1 begun.2) }
 {
+    let locks = free_locks(alloc)?;
     let first = Work::new(alloc, defs)?;
     let second = Work::new(alloc, defs)?;
-    let locks = free_locks(alloc)?;
     Ok((first, second, locks))
 }

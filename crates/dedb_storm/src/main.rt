@@ -24,13 +24,14 @@ ghost use Rattle.std.specs.Prelude.{◌≡◌};
 use fault::Fault;
 use fp_exits::{Exits, Router, Routing, Spreader, Spreading, fold_group, fold_place, range_place};
 use fp_model::{Kind, Name};
-use judging::{Asked, Way};
+use judging::{Asked, Way, judge_file};
 use std::alloc::Global;
 use std::cell::Cell;
 use std::fs::File;
 use std::io;
 use std::io::Read;
 use std::rc::Rc;
+use tally::Tally;
 
 // Files of lines with their definitions, and how the lines are asked.
 const FILES: &[(&str, Way, &str, &str)] = &[
@@ -107,46 +108,79 @@ fn main(rt: HostRuntime) -> io::Result<()> {
 fn judge_all(rt: &HostRuntime, exits: &Exits, randomized: &Cell<u64>) -> io::Result<()> {
     let mut lacking = 0u64;
     for (name, way, definitions, lines) in FILES {
-        let definitions = read_file(rt, rt.alloc(), definitions)?;
-        let bytes = read_file(rt, rt.alloc(), lines)?;
-        let Ok(lines) = str::from_utf8(&bytes) else {
-            return Err(io::ErrorKind::InvalidData.into());
-        };
-        let asked = Asked {
-            name,
-            way: *way,
-            definitions: &definitions,
-            lines,
-        };
-        if !judge(rt, &asked, exits, randomized)? {
+        if !judge_read(rt, name, *way, definitions, lines, exits, randomized)? {
             lacking = lacking.saturating_add(1);
         }
     }
     println!(rt; "{lacking} without memory")
 }
 
-// Judges the lines of a file, and prints what came of them. False where there was no memory.
+// Judges a file of lines with its definitions. False where there was no memory.
+fn judge_read(
+    rt: &HostRuntime,
+    name: &'static str,
+    way: Way,
+    definitions: &str,
+    lines: &str,
+    exits: &Exits,
+    randomized: &Cell<u64>,
+) -> io::Result<bool> {
+    let definitions = read_file(rt, rt.alloc(), definitions)?;
+    let lines = read_file(rt, rt.alloc(), lines)?;
+    judge_bytes(rt, name, way, &definitions, &lines, exits, randomized)
+}
+
+// Judges lines with their definitions.
+fn judge_bytes(
+    rt: &HostRuntime,
+    name: &'static str,
+    way: Way,
+    definitions: &[u8],
+    lines: &[u8],
+    exits: &Exits,
+    randomized: &Cell<u64>,
+) -> io::Result<bool> {
+    let Ok(lines) = str::from_utf8(lines) else {
+        return Err(io::ErrorKind::InvalidData.into());
+    };
+    let asked = Asked {
+        name,
+        way,
+        definitions,
+        lines,
+    };
+    judge(rt, &asked, exits, randomized)
+}
+
+// Judges the lines of a file, and prints what came of them.
 fn judge(
     rt: &HostRuntime,
     asked: &Asked<'_>,
     exits: &Exits,
     randomized: &Cell<u64>,
 ) -> io::Result<bool> {
-    match judging::judged(rt.alloc(), asked, exits, randomized) {
-        Ok(tally) => {
-            for line in tally.told() {
-                println!(rt; "{line}")?;
-            }
-            let verdict = tally.verdict(rt.alloc())?;
-            println!(rt; "{verdict}")?;
-            Ok(true)
-        }
+    let mut tally = Tally::new(rt.alloc(), asked.name);
+    match judge_file(rt.alloc(), asked, &mut tally, exits, randomized) {
+        Ok(()) => tell(rt, &tally),
         Err(Fault::Memory) => Ok(false),
-        Err(fault) => {
-            println!(rt; "{}: {fault:?}", asked.name)?;
-            Err(io::ErrorKind::InvalidData.into())
-        }
+        Err(fault) => refuse(rt, asked.name, &fault),
     }
+}
+
+// Prints what came of the lines of a file.
+fn tell(rt: &HostRuntime, tally: &Tally) -> io::Result<bool> {
+    for line in tally.told() {
+        println!(rt; "{line}")?;
+    }
+    let verdict = tally.verdict(rt.alloc())?;
+    println!(rt; "{verdict}")?;
+    Ok(true)
+}
+
+// Prints why a file isn't judged to its end.
+fn refuse(rt: &HostRuntime, name: &str, fault: &Fault) -> io::Result<bool> {
+    println!(rt; "{name}: {fault:?}")?;
+    Err(io::ErrorKind::InvalidData.into())
 }
 
 // The bytes of a file, which is read in blocks.

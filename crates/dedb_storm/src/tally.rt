@@ -69,13 +69,24 @@ impl Tally {
         }
         self.differ = self.differ.saturating_add(1);
         if self.differ <= MOST_TOLD {
-            let text = format!(in alloc;
-                "{}, line {}, of {}: {what} => {wanted}, but {came} came",
-                self.name, self.line, self.scenario
-            )?;
+            let text = self.difference(alloc, what, wanted, came)?;
             self.told.push(text)?;
         }
         Ok(())
+    }
+
+    // What is told of a line that differs.
+    fn difference(
+        &self,
+        alloc: Global,
+        what: &str,
+        wanted: &str,
+        came: &str,
+    ) -> Result<String, AllocError> {
+        format!(in alloc;
+            "{}, line {}, of {}: {what} => {wanted}, but {came} came",
+            self.name, self.line, self.scenario
+        )
     }
 
     /// A line for each of the first that differ.

@@ -2,7 +2,6 @@ use Rattle.std.proofs.Common.{List, refl, subst, sym}
 use Rattle.std.specs.List.{AllByRecursion}
 use Rattle.fp_model.specs.WellFormed.{IsMsdbDef}
 use Rattle.fp_model.specs.declared.definitions.MsdbDef.{MsdbDef}
-use Rattle.past_segments.specs.Pasts.{ArePastsOf}
 use Rattle.dedb_storm.proofs.alone.ask_once.Goals as goal
 
 pub answer-requires-clause-defs : goal.answer-requires-clause-defs

@@ -1,4 +1,4 @@
-use Rattle.std.proofs.Common.{◌≡◌, ◌<◌, ◌∙◌, List, ℕ, ap, arith, length, subst, sym, zero-le}
+use Rattle.std.proofs.Common.{◌≡◌, ◌<◌, List, ap, arith, length, subst, sym}
 use Rattle.fp_model.specs.Calls.{Target, database_of}
 use Rattle.fp_model.specs.declared.definitions.MsdbDef.{MsdbDef}
 use Rattle.dedb_calls.proofs.ArgumentLemmas.{indexed}

@@ -1,5 +1,4 @@
 use Rattle.std.proofs.Common.{◌∙◌, arith, refl}
-use Rattle.dli_calls.specs.Progress.{dedbs_in}
 use Rattle.dedb_storm.proofs.Banks.{bank_fits, bank_goes, bank_knows}
 use Rattle.dedb_storm.proofs.bank.ask_once.Goals as goal
 

@@ -1,4 +1,4 @@
-use Rattle.std.proofs.Common.{◌≡◌, ◌∙◌, Some, refl, sym, subst, true, arith}
+use Rattle.std.proofs.Common.{◌≡◌, refl, true}
 use Rattle.fp_exits.specs.Kinds.{has_kind, kinds_of}
 use Rattle.dedb_storm.proofs.Benches.{all_at, answered_on}
 use Rattle.dedb_storm.proofs.bench.ask_once.Goals as goal

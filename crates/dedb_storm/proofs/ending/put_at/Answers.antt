@@ -1,4 +1,4 @@
-use Rattle.std.proofs.Common.{◌≡◌, ◌∙◌, ◌^◌, ◌<◌, ℕ, List, refl, sym, ap, subst, true, false, slice_set, arith}
+use Rattle.std.proofs.Common.{◌≡◌, ◌∙◌, ◌^◌, ℕ, List, refl, sym, ap, subst, true, false, slice_set, arith}
 use Rattle.std.specs.Option.{option_map_or}
 use Rattle.fp_model.specs.declared.database.Root.{Root}
 use Rattle.fp_model.specs.declared.database.SeqItem.{SeqItem}

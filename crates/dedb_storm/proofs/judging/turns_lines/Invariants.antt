@@ -1,5 +1,5 @@
 use Rattle.dedb_storm.specs.Bank.{AreBothGoing, AreKept}
-use Rattle.dedb_storm.proofs.judging.judge_turns.Given as goal
+use Rattle.dedb_storm.proofs.judging.turns_lines.Given as goal
 
 abbrev pub invariant-loop-text : goal.invariant-loop-text
 invariant-loop-text g l =

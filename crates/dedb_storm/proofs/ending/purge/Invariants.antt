@@ -1,5 +1,5 @@
 use Rattle.dedb_storm.specs.Bank.{AreRootsAt}
-use Rattle.dedb_storm.proofs.ending.purged.Given as goal
+use Rattle.dedb_storm.proofs.ending.purge.Given as goal
 
 abbrev pub invariant-loop : goal.invariant-loop
 invariant-loop l = AreRootsAt l.defs.dedbs l.anchor l.roots
