@@ -15,7 +15,7 @@ ghost use Rattle.msdb_store.specs.Settling.{CanSettle};
 ghost use Rattle.msdb_store.specs.Store.{IsOf};
 ghost use Rattle.std.specs.List.{AllByRecursion};
 ghost use Rattle.std.specs.Prelude.{◌<◌, ◌≡◌, ◌≤◌, [], IfOk, IfSome, List as ListOf, OnOk, length};
-ghost use Rattle.txn_machine.specs.Running.{Awaits, IsFitNext};
+ghost use Rattle.txn_machine.specs.Running.{Awaits, IsFit, IsFitNext, WaitsFor};
 
 use crate::fault::Fault;
 use crate::telling::{answered_text, call_text, resource_text};
@@ -26,7 +26,6 @@ use fp_messages::read_message;
 use fp_model::{Call, Deferred, Defs, List, Message, Mode, Name, Resource};
 use msdb_store::{MsdbStore, VerifyFault};
 use std::alloc::{AllocError, Global};
-use std::mem::replace;
 use sync_point::resources;
 use txn_lang::Scripts;
 use txn_machine::{Next, Program};
@@ -90,6 +89,34 @@ fn number_of(scripts: &Scripts, tran: &Name) -> Option<u32>
     scripts.find(tran)
 }
 
+// Puts a value in the place of another, which is let go. By an assignment, the caller would be proved over every part
+// of the old value.
+fn put<T: Drop>(place: &mut T, value: T)
+    ensures { place.new ≡ value }
+{
+    *place = value;
+}
+
+// The program and the work of a transaction at its beginning.
+fn start(
+    alloc: Global,
+    defs: &Defs,
+    scripts: &Scripts,
+    tran: &Name,
+) -> Result<(Program, Work), Fault>
+    ensures number { IfOk result (λ made. made.0.number < length scripts.now.scripts) }
+    ensures fit { IfOk result (λ made. IsFit defs.now made.0) }
+    ensures work { IfOk result (λ made. IsWorkOf defs.now made.1) }
+{
+    match number_of(scripts, tran) {
+        Some(number) => Ok((
+            Program::start(alloc, scripts, number),
+            Work::new(alloc, defs)?,
+        )),
+        None => Err(Fault::Apart),
+    }
+}
+
 // A transaction at its beginning.
 fn beginning(
     alloc: Global,
@@ -99,13 +126,11 @@ fn beginning(
 ) -> Result<Follower, Fault>
     ensures { IfOk result (IsFollowed defs.now scripts.now.scripts) }
 {
-    let Some(number) = number_of(scripts, &message.tran) else {
-        return Err(Fault::Apart);
-    };
+    let (program, work) = start(alloc, defs, scripts, &message.tran)?;
     Ok(Follower {
         message,
-        program: Program::start(alloc, scripts, number),
-        work: Work::new(alloc, defs)?,
+        program,
+        work,
     })
 }
 
@@ -134,6 +159,36 @@ fn ready(
     answer(alloc, work, call, store, defs, exits, locks, region, 0)
 }
 
+// The lock that a call needs.
+fn lack_of(
+    alloc: Global,
+    work: &mut Work,
+    call: &Call,
+    store: &MsdbStore,
+    defs: &Defs,
+    exits: &Exits,
+    locks: &Locks,
+    region: u8,
+) -> Result<Lack, Fault>
+    requires defs { AllByRecursion IsMsdbDef defs.now.msdbs }
+    requires no_dedbs { defs.now.dedbs ≡ [] }
+    requires store { IsOf defs.now.msdbs store.now }
+    requires work { IsWorkOf defs.now work.old }
+    requires call { IsMsdbCall defs.now.msdbs call.now }
+    requires some { 1 ≤ region }
+    requires within { region ≤ length locks.now }
+    ensures { IsWorkOf defs.now work.new }
+{
+    match ready(alloc, work, call, store, defs, exits, locks, region)? {
+        Ready::Need(resource, mode) => Ok(Lack {
+            what: call_text(alloc, defs, call)?,
+            resource,
+            mode,
+        }),
+        Ready::Answer(_) => Err(Fault::Apart),
+    }
+}
+
 impl Follower {
     // Runs to its next call, or its end.
     fn next(&mut self, defs: &Defs, scripts: &Scripts) -> Result<Next, AllocError>
@@ -146,7 +201,42 @@ impl Follower {
         self.program.next(scripts, defs, &self.message)
     }
 
-    // Its call is answered. The call and its answer.
+    // It takes the answer to a call that it waits at. Both as a text.
+    fn take_answer(
+        &mut self,
+        call: &Call,
+        alloc: Global,
+        defs: &Defs,
+        exits: &Exits,
+        store: &MsdbStore,
+        locks: &Locks,
+        region: u8,
+    ) -> Result<String, Fault>
+        requires defs { AllByRecursion IsMsdbDef defs.now.msdbs }
+        requires no_dedbs { defs.now.dedbs ≡ [] }
+        requires store { IsOf defs.now.msdbs store.now }
+        requires call { IsMsdbCall defs.now.msdbs call.now }
+        requires waits { WaitsFor call.now self.old.program }
+        requires fit { IsFit defs.now self.old.program }
+        requires work { IsWorkOf defs.now self.old.work }
+        requires some { 1 ≤ region }
+        requires within { region ≤ length locks.now }
+        ensures number { self.new.program.number ≡ self.old.program.number }
+        ensures fit { IsFit defs.now self.new.program }
+        ensures work { IsWorkOf defs.now self.new.work }
+    {
+        let work = &mut self.work;
+        match ready(alloc, work, call, store, defs, exits, locks, region)? {
+            Ready::Answer(given) => {
+                let text = answered_text(alloc, defs, call, &given)?;
+                self.program.give(given);
+                Ok(text)
+            }
+            Ready::Need(..) => Err(Fault::Apart),
+        }
+    }
+
+    // Its call is answered. The call and its answer, as a text.
     fn answer_call(
         &mut self,
         alloc: Global,
@@ -164,25 +254,11 @@ impl Follower {
         requires within { region ≤ length locks.now }
         ensures { OnOk result (IsFollowed defs.now scripts.now.scripts self.new) }
     {
-        let Next::Call(call) = self.next(defs, scripts)? else {
-            return Err(Fault::Apart);
-        };
-        match ready(
-            alloc,
-            &mut self.work,
-            &call,
-            store,
-            defs,
-            exits,
-            locks,
-            region,
-        )? {
-            Ready::Answer(given) => {
-                let text = answered_text(alloc, defs, &call, &given)?;
-                self.program.give(given);
-                Ok(text)
+        match self.next(defs, scripts)? {
+            Next::Call(call) => {
+                self.take_answer(&call, alloc, defs, exits, store, locks, region)
             }
-            Ready::Need(..) => Err(Fault::Apart),
+            _ => Err(Fault::Apart),
         }
     }
 
@@ -205,28 +281,29 @@ impl Follower {
         ensures { OnOk result (IsFollowed defs.now scripts.now.scripts self.new) }
     {
         match self.next(defs, scripts)? {
-            Next::Call(call) => {
-                match ready(
-                    alloc,
-                    &mut self.work,
-                    &call,
-                    store,
-                    defs,
-                    exits,
-                    locks,
-                    region,
-                )? {
-                    Ready::Need(resource, mode) => Ok(Lack {
-                        what: call_text(alloc, defs, &call)?,
-                        resource,
-                        mode,
-                    }),
-                    Ready::Answer(_) => Err(Fault::Apart),
-                }
-            }
+            Next::Call(call) => lack_of(
+                alloc,
+                &mut self.work,
+                &call,
+                store,
+                defs,
+                exits,
+                locks,
+                region,
+            ),
             Next::Reply(_) => at_the_end(alloc, self.work.deferred(), locks, region),
             Next::Roll(_) => Err(Fault::Apart),
         }
+    }
+
+    // It begins once more.
+    fn begin_again(&mut self, alloc: Global, defs: &Defs, scripts: &Scripts) -> Result<(), Fault>
+        ensures { OnOk result (IsFollowed defs.now scripts.now.scripts self.new) }
+    {
+        let (program, work) = start(alloc, defs, scripts, &self.message.tran)?;
+        put(&mut self.program, program);
+        put(&mut self.work, work);
+        Ok(())
     }
 }
 
@@ -304,29 +381,26 @@ impl<'a> Shadow<'a> {
         })
     }
 
-    // Takes what is followed of a region away.
-    fn leave(&mut self, region: u8) -> Result<Follower, Fault>
+    // Puts what is followed of a region in the place of what was.
+    fn seat(&mut self, region: u8, seat: Seat)
         requires shadow { IsShadow self.old }
         requires some { 1 ≤ region }
         requires within { region ≤ 64 }
+        requires followed { IsSeat self.old.defs.now self.old.scripts.now.scripts seat }
         ensures shadow { IsShadow self.new }
-        ensures followed { IfOk result (IsFollowed self.new.defs.now self.new.scripts.now.scripts) }
     {
-        match replace(self.seats.item_mut(usize::from(region) - 1), Seat::Idle) {
-            Seat::At(follower) => Ok(follower),
-            Seat::Idle => Err(Fault::Apart),
-        }
+        put(self.seats.item_mut(usize::from(region) - 1), seat);
     }
 
-    // Follows a transaction of a region.
-    fn sit(&mut self, region: u8, follower: Follower)
+    // Nobody sits in a region's place any more, and its locks go.
+    fn leave(&mut self, region: u8)
         requires shadow { IsShadow self.old }
         requires some { 1 ≤ region }
         requires within { region ≤ 64 }
-        requires followed { IsFollowed self.old.defs.now self.old.scripts.now.scripts follower }
         ensures shadow { IsShadow self.new }
     {
-        *self.seats.item_mut(usize::from(region) - 1) = Seat::At(follower);
+        self.seat(region, Seat::Idle);
+        self.locks.release_all(region);
     }
 
     /// A region took the message of a line.
@@ -340,7 +414,7 @@ impl<'a> Shadow<'a> {
             return Err(Fault::Apart);
         };
         let follower = beginning(self.alloc, self.defs, self.scripts, message)?;
-        self.sit(region, follower);
+        self.seat(region, Seat::At(follower));
         Ok(())
     }
 
@@ -351,21 +425,54 @@ impl<'a> Shadow<'a> {
         requires within { region ≤ 64 }
         ensures { OnOk result (IsShadow self.new) }
     {
-        let mut follower = self.leave(region)?;
-        let what = follower.answer_call(
-            self.alloc,
-            self.defs,
-            self.scripts,
-            exits,
-            &self.store,
-            &self.locks,
-            region,
-        )?;
-        self.sit(region, follower);
+        let what = match self.seats.item_mut(usize::from(region) - 1) {
+            Seat::At(follower) => follower.answer_call(
+                self.alloc,
+                self.defs,
+                self.scripts,
+                exits,
+                &self.store,
+                &self.locks,
+                region,
+            )?,
+            Seat::Idle => return Err(Fault::Apart),
+        };
         Ok(Told {
             what,
             lock: String::new(self.alloc),
         })
+    }
+
+    // The lock that a region needs next.
+    fn lack(&mut self, region: u8, exits: &Exits) -> Result<Lack, Fault>
+        requires shadow { IsShadow self.old }
+        requires some { 1 ≤ region }
+        requires within { region ≤ 64 }
+        ensures { OnOk result (IsShadow self.new) }
+    {
+        match self.seats.item_mut(usize::from(region) - 1) {
+            Seat::At(follower) => follower.lack(
+                self.alloc,
+                self.defs,
+                self.scripts,
+                exits,
+                &self.store,
+                &self.locks,
+                region,
+            ),
+            Seat::Idle => Err(Fault::Apart),
+        }
+    }
+
+    // A region asks for a lock. The text of it.
+    fn ask(&mut self, region: u8, resource: &Resource, mode: Mode) -> Result<String, AllocError>
+        requires shadow { IsShadow self.old }
+        requires some { 1 ≤ region }
+        requires within { region ≤ 64 }
+        ensures { OnOk result (IsShadow self.new) }
+    {
+        self.locks.ask(region, resource, mode)?;
+        resource_text(self.alloc, self.defs, resource)
     }
 
     /// A region gained a lock, or waits for it.
@@ -375,22 +482,13 @@ impl<'a> Shadow<'a> {
         requires within { region ≤ 64 }
         ensures { OnOk result (IsShadow self.new) }
     {
-        let mut follower = self.leave(region)?;
-        let lack = follower.lack(
-            self.alloc,
-            self.defs,
-            self.scripts,
-            exits,
-            &self.store,
-            &self.locks,
-            region,
-        )?;
-        self.sit(region, follower);
-        self.locks.ask(region, &lack.resource, lack.mode)?;
-        Ok(Told {
-            what: lack.what,
-            lock: resource_text(self.alloc, self.defs, &lack.resource)?,
-        })
+        let Lack {
+            what,
+            resource,
+            mode,
+        } = self.lack(region, exits)?;
+        let lock = self.ask(region, &resource, mode)?;
+        Ok(Told { what, lock })
     }
 
     /// A region's transaction is done: the databases have its changes.
@@ -400,9 +498,11 @@ impl<'a> Shadow<'a> {
         requires within { region ≤ 64 }
         ensures { OnOk result (IsShadow self.new) }
     {
-        let follower = self.leave(region)?;
+        let Seat::At(follower) = &self.seats.as_slice()[usize::from(region) - 1] else {
+            return Err(Fault::Apart);
+        };
         settle(&mut self.store, follower.work.deferred())?;
-        self.locks.release_all(region);
+        self.leave(region);
         Ok(())
     }
 
@@ -413,8 +513,10 @@ impl<'a> Shadow<'a> {
         requires within { region ≤ 64 }
         ensures { OnOk result (IsShadow self.new) }
     {
-        self.leave(region)?;
-        self.locks.release_all(region);
+        if matches!(self.seats.as_slice()[usize::from(region) - 1], Seat::Idle) {
+            return Err(Fault::Apart);
+        }
+        self.leave(region);
         Ok(())
     }
 
@@ -425,9 +527,12 @@ impl<'a> Shadow<'a> {
         requires within { region ≤ 64 }
         ensures { OnOk result (IsShadow self.new) }
     {
-        let Follower { message, .. } = self.leave(region)?;
-        let follower = beginning(self.alloc, self.defs, self.scripts, message)?;
-        self.sit(region, follower);
+        match self.seats.item_mut(usize::from(region) - 1) {
+            Seat::At(follower) => {
+                follower.begin_again(self.alloc, self.defs, self.scripts)?;
+            }
+            Seat::Idle => return Err(Fault::Apart),
+        }
         self.locks.release_all(region);
         Ok(())
     }

@@ -18,23 +18,27 @@ mod table;
 mod telling;
 mod turns;
 
+ghost use Rattle.fp_core.specs.Relation.{IsSetup};
+ghost use Rattle.fp_exits.specs.Kinds.{has_kind, kinds_of};
 ghost use Rattle.fp_exits.specs.Ranges.{IsRoutable};
 ghost use Rattle.fp_model.specs.Exits.{route};
-ghost use Rattle.std.specs.Prelude.{◌≡◌};
+ghost use Rattle.fp_model.specs.WellFormed.{AreDefs};
+ghost use Rattle.std.specs.Prelude.{◌≡◌, [], true};
 
 use comparing::compared;
 use core_runs::{definitions, scripts};
 use fault::Fault;
 use folder::Folder;
 use fp_exits::{Exits, Router, Routing, fold_group, range_group};
-use fp_model::{Kind, Name};
+use fp_model::{Defs, Kind, Name};
 use picture::picture;
-use running::run_of;
+use running::{Run, run_of};
 use std::alloc::AllocError;
 use std::env;
 use std::process::ExitCode;
 use table::table;
-use turns::turns_of;
+use turns::{Turn, turns_of};
+use txn_lang::Scripts;
 
 // What is to be printed.
 #[derive(Clone, Copy)]
@@ -97,17 +101,66 @@ fn with_exits(rt: &HostRuntime, wanted: Wanted, folder: &Folder) -> Result<(), F
 
 // Runs what the folder has, and prints what is wanted.
 fn show(rt: &HostRuntime, wanted: Wanted, folder: &Folder, exits: &Exits) -> Result<(), Fault> {
+    let defs = definitions(rt.alloc(), &folder.definitions, exits)?;
+    show_under(rt, wanted, folder, exits, &defs)
+}
+
+// The same, under definitions.
+fn show_under(
+    rt: &HostRuntime,
+    wanted: Wanted,
+    folder: &Folder,
+    exits: &Exits,
+    defs: &Defs,
+) -> Result<(), Fault>
+    requires defs { AreDefs defs.now }
+    requires no_dedbs { defs.now.dedbs ≡ [] }
+    requires router { has_kind (kinds_of exits.now).routers defs.now.router ≡ true }
+{
+    let scripts = scripts(rt.alloc(), &folder.scripts, defs)?;
+    show_run(rt, wanted, folder, exits, defs, &scripts)
+}
+
+// The same, of scripts.
+fn show_run(
+    rt: &HostRuntime,
+    wanted: Wanted,
+    folder: &Folder,
+    exits: &Exits,
+    defs: &Defs,
+    scripts: &Scripts,
+) -> Result<(), Fault>
+    requires defs { AreDefs defs.now }
+    requires setup { IsSetup defs.now scripts.now.scripts }
+    requires router { has_kind (kinds_of exits.now).routers defs.now.router ≡ true }
+{
     let alloc = rt.alloc();
-    let defs = definitions(alloc, &folder.definitions, exits)?;
-    let scripts = scripts(alloc, &folder.scripts, &defs)?;
-    let run = run_of(alloc, folder, &defs, &scripts, exits)?;
-    let turns = turns_of(alloc, &defs, &scripts, exits, &run, &folder.messages)?;
+    let run = run_of(alloc, folder, defs, scripts, exits)?;
+    let turns = turns_of(alloc, defs, scripts, exits, &run, &folder.messages)?;
+    show_turns(rt, wanted, &run, &turns, &folder.log)
+}
+
+// Prints what is wanted of a run and its turns.
+fn show_turns(
+    rt: &HostRuntime,
+    wanted: Wanted,
+    run: &Run,
+    turns: &[Turn],
+    log: &[u8],
+) -> Result<(), Fault> {
+    let alloc = rt.alloc();
     if wanted.table {
-        print!(rt; "{}", table(alloc, &turns)?)?;
-        print!(rt; "{}", compared(alloc, &run, &folder.log)?)?;
+        put_out(rt, table(alloc, turns))?;
+        put_out(rt, compared(alloc, run, log))?;
     }
     if wanted.picture {
-        print!(rt; "{}", picture(alloc, &turns)?)?;
+        put_out(rt, picture(alloc, turns))?;
     }
+    Ok(())
+}
+
+// Prints what was made.
+fn put_out(rt: &HostRuntime, made: Result<String, AllocError>) -> Result<(), Fault> {
+    print!(rt; "{}", made?)?;
     Ok(())
 }

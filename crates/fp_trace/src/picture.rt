@@ -5,7 +5,6 @@ use crate::turns::{Span, Turn};
 use fp_core::Did;
 use fp_model::Event;
 use std::alloc::{AllocError, Global};
-use std::mem::replace;
 
 // Where the first turn stands, and how far one is from the next.
 const LEFT: u64 = 70;
@@ -49,11 +48,17 @@ struct Lane<'a> {
     bars: Vec<Bar<'a>>,
 }
 
+// The shapes of the picture, as far as it is drawn.
+#[derive(Drop)]
+struct Canvas {
+    alloc: Global,
+    text: String,
+}
+
 // The picture as far as it is drawn.
 #[derive(Drop)]
 struct Drawing<'a> {
-    alloc: Global,
-    text: String,
+    canvas: Canvas,
     lanes: Vec<Lane<'a>>,
     // How high a lane is.
     height: u64,
@@ -118,6 +123,189 @@ fn put_text(into: &mut String, text: &str) -> Result<(), AllocError> {
     Ok(())
 }
 
+// The word of groups.
+fn groups_word(alloc: Global, groups: Span) -> Result<String, AllocError> {
+    let Span { first, last } = groups;
+    if first == last {
+        format!(in alloc; "g{first}")
+    } else {
+        format!(in alloc; "g{first}-{last}")
+    }
+}
+
+// The name of a lane, of so many regions.
+fn lane_name(alloc: Global, number: usize, regions: usize) -> Result<String, AllocError> {
+    match number {
+        0 => event_text(alloc, Event::In),
+        _ if number <= regions => format!(in alloc; "R{number}"),
+        _ => event_text(alloc, Event::Log),
+    }
+}
+
+impl Canvas {
+    // Appends what was made.
+    fn put(&mut self, made: Result<String, AllocError>) -> Result<(), AllocError> {
+        self.text.push_str(&made?)
+    }
+
+    // A text at a place.
+    fn label(&mut self, x: u64, y: u64, text: &str) -> Result<(), AllocError> {
+        self.put(format!(in self.alloc; "<text x=\"{x}\" y=\"{y}\">"))?;
+        put_text(&mut self.text, text)?;
+        self.text.push_str("</text>\n")
+    }
+
+    // A text that was made, at a place.
+    fn put_label(
+        &mut self,
+        x: u64,
+        y: u64,
+        made: Result<String, AllocError>,
+    ) -> Result<(), AllocError> {
+        self.label(x, y, &made?)
+    }
+
+    // A line of a class.
+    fn line(&mut self, class: &str, from: (u64, u64), to: (u64, u64)) -> Result<(), AllocError> {
+        let (x1, y1) = from;
+        let (x2, y2) = to;
+        self.put(format!(in self.alloc;
+            "<line class=\"{class}\" x1=\"{x1}\" y1=\"{y1}\" x2=\"{x2}\" y2=\"{y2}\"/>\n"
+        ))
+    }
+
+    // A box of a class, so wide and high.
+    fn box_at(&mut self, class: &str, at: (u64, u64), size: (u64, u64)) -> Result<(), AllocError> {
+        let (x, y) = at;
+        let (width, height) = size;
+        self.put(format!(in self.alloc;
+            "<rect class=\"{class}\" x=\"{x}\" y=\"{y}\" width=\"{width}\" height=\"{height}\" fill-opacity=\"0.4\"/>\n"
+        ))
+    }
+
+    // A mark of a class, with what it is about.
+    fn mark(&mut self, class: &str, x: u64, y: u64, about: &str) -> Result<(), AllocError> {
+        self.put(format!(in self.alloc;
+            "<circle class=\"{class}\" cx=\"{x}\" cy=\"{y}\" r=\"4\"><title>"
+        ))?;
+        put_text(&mut self.text, about)?;
+        self.text.push_str("</title></circle>\n")
+    }
+
+    // The mark of a turn that appended an entry or didn't, in the lane that begins at a height.
+    fn mark_turn(&mut self, class: &str, x: u64, top: u64, turn: &Turn) -> Result<(), AllocError> {
+        self.mark(class, x, top.saturating_add(MARKS), &turn.what)?;
+        match turn.entry {
+            Some(entry) => self.put_label(
+                x.saturating_sub(3),
+                top.saturating_add(MARKS - 7),
+                entry.to_string(self.alloc),
+            ),
+            None => Ok(()),
+        }
+    }
+
+    // The bar of a lock, up to a place.
+    fn bar(&mut self, bar: &Bar<'_>, to: u64) -> Result<(), AllocError> {
+        let class = if bar.waits { "w" } else { "h" };
+        self.line(class, (bar.from, bar.y), (to, bar.y))?;
+        if bar.waits {
+            return Ok(());
+        }
+        self.label(
+            bar.from.saturating_add(2),
+            bar.y.saturating_sub(3),
+            bar.lock,
+        )
+    }
+}
+
+impl<'a> Lane<'a> {
+    // The bar of the lock that is waited for, which is the last one, goes.
+    fn end_wait(&mut self) -> Option<Bar<'a>> {
+        match self.bars.last() {
+            Some(bar) if bar.waits => self.bars.pop(),
+            _ => None,
+        }
+    }
+
+    // Where the bar of a further lock stands.
+    fn slot(&self) -> u64 {
+        let slot = BARS.saturating_add(BAR.saturating_mul(self.bars.len() as u64));
+        self.y.saturating_add(slot)
+    }
+
+    // A lock is gained or waited for.
+    fn lock(&mut self, canvas: &mut Canvas, x: u64, turn: &'a Turn) -> Result<(), AllocError> {
+        let y = match self.end_wait() {
+            Some(bar) => {
+                canvas.bar(&bar, x)?;
+                bar.y
+            }
+            None => self.slot(),
+        };
+        self.bars.push(Bar {
+            lock: &turn.lock,
+            from: x,
+            y,
+            waits: turn.step.did == Did::Waited,
+        })?;
+        Ok(())
+    }
+
+    // Its locks go.
+    fn release(&mut self, canvas: &mut Canvas, x: u64) -> Result<(), AllocError> {
+        for bar in &self.bars {
+            canvas.bar(bar, x)?;
+        }
+        self.bars.clear();
+        Ok(())
+    }
+
+    // Its transaction ends.
+    fn finish(&mut self, canvas: &mut Canvas, x: u64, height: u64) -> Result<(), AllocError> {
+        self.release(canvas, x)?;
+        let Some(from) = self.begun.take() else {
+            return Ok(());
+        };
+        let size = (x.saturating_sub(from), height.saturating_sub(16));
+        canvas.box_at("t", (from, self.y.saturating_add(12)), size)?;
+        canvas.label(from, self.y.saturating_add(10), self.line)
+    }
+
+    // A turn of its region.
+    fn turn(
+        &mut self,
+        canvas: &mut Canvas,
+        x: u64,
+        height: u64,
+        turn: &'a Turn,
+    ) -> Result<(), AllocError> {
+        match turn.step.did {
+            Did::Took => {
+                self.begun = Some(x);
+                self.line = &turn.what;
+                Ok(())
+            }
+            Did::Gained | Did::Waited => self.lock(canvas, x, turn),
+            Did::Committed | Did::Refused => self.finish(canvas, x, height),
+            Did::Retried => self.release(canvas, x),
+            _ => Ok(()),
+        }
+    }
+}
+
+// The class of the mark of a region's turn.
+fn class_of(did: Did) -> &'static str {
+    match did {
+        Did::Took | Did::Answered => "on",
+        Did::Gained | Did::Waited => "off",
+        Did::Committed => "ok",
+        Did::Refused | Did::Retried => "no",
+        _ => "idle",
+    }
+}
+
 impl<'a> Drawing<'a> {
     // The lanes of so many regions, each so high.
     fn new(alloc: Global, regions: usize, height: u64) -> Result<Drawing<'a>, AllocError> {
@@ -131,163 +319,24 @@ impl<'a> Drawing<'a> {
             })?;
         }
         Ok(Drawing {
-            alloc,
-            text: String::new(alloc),
+            canvas: Canvas {
+                alloc,
+                text: String::new(alloc),
+            },
             lanes,
             height,
             bottom: lane_top(regions.saturating_add(1), height),
         })
     }
 
-    // A text at a place.
-    fn label(&mut self, x: u64, y: u64, text: &str) -> Result<(), AllocError> {
-        let head = format!(in self.alloc; "<text x=\"{x}\" y=\"{y}\">")?;
-        self.text.push_str(&head)?;
-        put_text(&mut self.text, text)?;
-        self.text.push_str("</text>\n")
-    }
-
-    // A line of a class.
-    fn line(&mut self, class: &str, from: (u64, u64), to: (u64, u64)) -> Result<(), AllocError> {
-        let (x1, y1) = from;
-        let (x2, y2) = to;
-        let line = format!(in self.alloc;
-            "<line class=\"{class}\" x1=\"{x1}\" y1=\"{y1}\" x2=\"{x2}\" y2=\"{y2}\"/>\n"
-        )?;
-        self.text.push_str(&line)
-    }
-
-    // A box of a class, so wide and high.
-    fn box_at(&mut self, class: &str, at: (u64, u64), size: (u64, u64)) -> Result<(), AllocError> {
-        let (x, y) = at;
-        let (width, height) = size;
-        let shape = format!(in self.alloc;
-            "<rect class=\"{class}\" x=\"{x}\" y=\"{y}\" width=\"{width}\" height=\"{height}\" fill-opacity=\"0.4\"/>\n"
-        )?;
-        self.text.push_str(&shape)
-    }
-
-    // A mark of a class, with what it is about.
-    fn mark(&mut self, class: &str, x: u64, y: u64, about: &str) -> Result<(), AllocError> {
-        let head = format!(in self.alloc;
-            "<circle class=\"{class}\" cx=\"{x}\" cy=\"{y}\" r=\"4\"><title>"
-        )?;
-        self.text.push_str(&head)?;
-        put_text(&mut self.text, about)?;
-        self.text.push_str("</title></circle>\n")
-    }
-
-    // The mark of a turn that appended an entry or didn't, in the lane that begins at a height.
-    fn mark_turn(&mut self, class: &str, x: u64, top: u64, turn: &Turn) -> Result<(), AllocError> {
-        self.mark(class, x, top.saturating_add(MARKS), &turn.what)?;
-        if let Some(entry) = turn.entry {
-            let number = entry.to_string(self.alloc)?;
-            self.label(x.saturating_sub(3), top.saturating_add(MARKS - 7), &number)?;
-        }
-        Ok(())
-    }
-
-    // The bar of a lock, up to a place.
-    fn bar(&mut self, bar: Bar<'a>, to: u64) -> Result<(), AllocError> {
-        let class = if bar.waits { "w" } else { "h" };
-        self.line(class, (bar.from, bar.y), (to, bar.y))?;
-        if !bar.waits {
-            self.label(
-                bar.from.saturating_add(2),
-                bar.y.saturating_sub(3),
-                bar.lock,
-            )?;
-        }
-        Ok(())
-    }
-
-    // A lock is gained or waited for, in a lane.
-    fn lock(&mut self, lane: usize, x: u64, turn: &'a Turn) -> Result<(), AllocError> {
-        let none = Vec::new(self.alloc);
-        let Some(region) = self.lanes.get_mut(lane) else {
-            return Ok(());
-        };
-        let top = region.y;
-        let before = replace(&mut region.bars, none);
-        let mut bars = Vec::new(self.alloc);
-        let mut y = None;
-        for bar in before {
-            if bar.waits {
-                y = Some(bar.y);
-                self.bar(bar, x)?;
-            } else {
-                bars.push(bar)?;
-            }
-        }
-        let slot = BARS.saturating_add(BAR.saturating_mul(bars.len() as u64));
-        bars.push(Bar {
-            lock: &turn.lock,
-            from: x,
-            y: y.unwrap_or(top.saturating_add(slot)),
-            waits: turn.step.did == Did::Waited,
-        })?;
-        if let Some(region) = self.lanes.get_mut(lane) {
-            region.bars = bars;
-        }
-        Ok(())
-    }
-
-    // The locks of a lane go.
-    fn release(&mut self, lane: usize, x: u64) -> Result<(), AllocError> {
-        if lane < self.lanes.len() {
-            let none = Vec::new(self.alloc);
-            for bar in replace(&mut self.lanes[lane].bars, none) {
-                self.bar(bar, x)?;
-            }
-        }
-        Ok(())
-    }
-
-    // The transaction of a lane ends.
-    fn finish(&mut self, lane: usize, x: u64) -> Result<(), AllocError> {
-        self.release(lane, x)?;
-        if lane < self.lanes.len()
-            && let Some(from) = self.lanes[lane].begun.take()
-        {
-            let (y, line) = (self.lanes[lane].y, self.lanes[lane].line);
-            let size = (x.saturating_sub(from), self.height.saturating_sub(16));
-            self.box_at("t", (from, y.saturating_add(12)), size)?;
-            self.label(from, y.saturating_add(10), line)?;
-        }
-        Ok(())
-    }
-
     // A turn of a region.
     fn region(&mut self, region: u8, x: u64, turn: &'a Turn) -> Result<(), AllocError> {
         let lane = usize::from(region.saturating_sub(1));
-        let class = match turn.step.did {
-            Did::Took => {
-                if lane < self.lanes.len() {
-                    self.lanes[lane].begun = Some(x);
-                    self.lanes[lane].line = &turn.what;
-                }
-                "on"
-            }
-            Did::Gained | Did::Waited => {
-                self.lock(lane, x, turn)?;
-                "off"
-            }
-            Did::Committed => {
-                self.finish(lane, x)?;
-                "ok"
-            }
-            Did::Refused => {
-                self.finish(lane, x)?;
-                "no"
-            }
-            Did::Retried => {
-                self.release(lane, x)?;
-                "no"
-            }
-            Did::Answered => "on",
-            _ => "idle",
-        };
-        self.mark_turn(class, x, lane_top(usize::from(region), self.height), turn)
+        if let Some(lane) = self.lanes.get_mut(lane) {
+            lane.turn(&mut self.canvas, x, self.height, turn)?;
+        }
+        let top = lane_top(usize::from(region), self.height);
+        self.canvas.mark_turn(class_of(turn.step.did), x, top, turn)
     }
 
     // A turn that reads a line.
@@ -298,40 +347,40 @@ impl<'a> Drawing<'a> {
             Did::Refused => "no",
             _ => "idle",
         };
-        self.mark_turn(class, x, TOP, turn)
+        self.canvas.mark_turn(class, x, TOP, turn)
     }
 
     // A turn that seals.
     fn seal(&mut self, x: u64, turn: &Turn) -> Result<(), AllocError> {
         let top = self.bottom;
-        let Some(Span { first, last }) = turn.groups else {
-            return self.mark_turn("idle", x, top, turn);
+        let Some(groups) = turn.groups else {
+            return self.canvas.mark_turn("idle", x, top, turn);
         };
-        let groups = if first == last {
-            format!(in self.alloc; "g{first}")?
-        } else {
-            format!(in self.alloc; "g{first}-{last}")?
-        };
-        self.box_at(
+        self.canvas.box_at(
             "g",
             (x.saturating_sub(11), top.saturating_add(12)),
             (22, 24),
         )?;
-        self.label(x.saturating_sub(8), top.saturating_add(MARKS + 3), &groups)
+        let word = groups_word(self.canvas.alloc, groups);
+        self.canvas
+            .put_label(x.saturating_sub(8), top.saturating_add(MARKS + 3), word)
     }
 
     // A turn.
     fn turn(&mut self, at: usize, turn: &'a Turn) -> Result<(), AllocError> {
         let x = place_of(at);
         if at % 5 == 4 {
-            let number = (at as u64).saturating_add(1).to_string(self.alloc)?;
-            self.label(x.saturating_sub(3), TOP - 12, &number)?;
+            let number = (at as u64).saturating_add(1).to_string(self.canvas.alloc);
+            self.canvas
+                .put_label(x.saturating_sub(3), TOP - 12, number)?;
         }
         match turn.step.event {
             Event::In => self.read(x, turn),
             Event::Region(region) => self.region(region, x, turn),
             Event::Log | Event::Ckpt => self.seal(x, turn),
-            Event::Out | Event::Purge { .. } => self.mark_turn("idle", x, self.bottom, turn),
+            Event::Out | Event::Purge { .. } => {
+                self.canvas.mark_turn("idle", x, self.bottom, turn)
+            }
         }
     }
 
@@ -340,14 +389,11 @@ impl<'a> Drawing<'a> {
         let regions = self.lanes.len();
         for number in 0..regions.saturating_add(2) {
             let top = lane_top(number, self.height);
-            let name = match number {
-                0 => event_text(self.alloc, Event::In)?,
-                _ if number <= regions => format!(in self.alloc; "R{number}")?,
-                _ => event_text(self.alloc, Event::Log)?,
-            };
-            self.label(10, top.saturating_add(MARKS + 3), &name)?;
+            let name = lane_name(self.canvas.alloc, number, regions);
+            self.canvas
+                .put_label(10, top.saturating_add(MARKS + 3), name)?;
             let y = top.saturating_add(self.height);
-            self.line("line", (10, y), (width, y))?;
+            self.canvas.line("line", (10, y), (width, y))?;
         }
         Ok(())
     }
@@ -358,34 +404,41 @@ impl<'a> Drawing<'a> {
             if turn.step.in_drain {
                 let x = place_of(at).saturating_sub(STEP / 2);
                 let y = self.bottom.saturating_add(self.height);
-                self.line("end", (x, TOP - 8), (x, y))?;
-                return self.label(x.saturating_add(3), y.saturating_sub(4), "drain");
+                self.canvas.line("end", (x, TOP - 8), (x, y))?;
+                return self
+                    .canvas
+                    .label(x.saturating_add(3), y.saturating_sub(4), "drain");
             }
         }
         Ok(())
+    }
+
+    // All of it.
+    fn draw(&mut self, turns: &'a [Turn]) -> Result<(), AllocError> {
+        let width = place_of(turns.len()).saturating_add(40);
+        let height = self.bottom.saturating_add(self.height).saturating_add(10);
+        let alloc = self.canvas.alloc;
+        self.canvas.put(format!(in alloc;
+            "<svg xmlns=\"http://www.w3.org/2000/svg\" width=\"{width}\" height=\"{height}\">\n"
+        ))?;
+        self.canvas.text.push_str(STYLE)?;
+        self.canvas
+            .text
+            .push_str("<rect width=\"100%\" height=\"100%\" fill=\"#fff\"/>\n")?;
+        self.lanes(width)?;
+        self.end_of_schedule(turns)?;
+        for (at, turn) in turns.iter().enumerate() {
+            self.turn(at, turn)?;
+        }
+        self.canvas.text.push_str("</svg>\n")
     }
 }
 
 /// The picture of these turns.
 pub(crate) fn picture(alloc: Global, turns: &[Turn]) -> Result<String, AllocError> {
     let regions = regions_in(turns);
-    let lane = LANE.saturating_add(BAR.saturating_mul(most_locks(alloc, turns, regions)?));
-    let mut drawing = Drawing::new(alloc, regions, lane)?;
-    let width = place_of(turns.len()).saturating_add(40);
-    let height = drawing.bottom.saturating_add(lane).saturating_add(10);
-    let head = format!(in alloc;
-        "<svg xmlns=\"http://www.w3.org/2000/svg\" width=\"{width}\" height=\"{height}\">\n"
-    )?;
-    drawing.text.push_str(&head)?;
-    drawing.text.push_str(STYLE)?;
-    drawing
-        .text
-        .push_str("<rect width=\"100%\" height=\"100%\" fill=\"#fff\"/>\n")?;
-    drawing.lanes(width)?;
-    drawing.end_of_schedule(turns)?;
-    for (at, turn) in turns.iter().enumerate() {
-        drawing.turn(at, turn)?;
-    }
-    drawing.text.push_str("</svg>\n")?;
-    Ok(drawing.text)
+    let height = LANE.saturating_add(BAR.saturating_mul(most_locks(alloc, turns, regions)?));
+    let mut drawing = Drawing::new(alloc, regions, height)?;
+    drawing.draw(turns)?;
+    Ok(drawing.canvas.text)
 }

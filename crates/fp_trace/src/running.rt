@@ -215,31 +215,81 @@ pub(crate) fn run_of(
         return Err(Fault::Run(RunFault::NotRead));
     };
     let front = front_of(alloc, defs, scripts)?;
-    let mut site = MemorySite::new(alloc, &[])?;
-    let mut steps = Vec::new(alloc);
-    let started = begun(alloc, defs, &front, &mut site)?;
-    let mut core = core_of(alloc, defs, scripts, exits, started)?;
-    take(
-        alloc,
-        &mut core,
-        defs,
-        events.as_slice(),
-        &folder.messages,
-        &mut site,
-        &mut steps,
-    )?;
     let mut run = Run {
-        steps,
+        steps: Vec::new(alloc),
         entries: Vec::new(alloc),
         groups: Vec::new(alloc),
-        log: Bytes::from_slice(alloc, site.contents(0))?,
+        log: Bytes::new(alloc),
     };
-    read_groups(alloc, &front, &mut site, &mut run)?;
+    fill(
+        alloc,
+        &mut run,
+        defs,
+        scripts,
+        exits,
+        events.as_slice(),
+        &folder.messages,
+        &front,
+    )?;
     Ok(run)
 }
 
-// Steps the core through a schedule, and drains it.
+// Runs a schedule, and fills in what is kept of that.
+fn fill(
+    alloc: Global,
+    run: &mut Run,
+    defs: &Defs,
+    scripts: &Scripts,
+    exits: &Exits,
+    events: &[Event],
+    messages: &[u8],
+    front: &Front,
+) -> Result<(), Fault>
+    requires defs { AreDefs defs.now }
+    requires setup { IsSetup defs.now scripts.now.scripts }
+    requires router { has_kind (kinds_of exits.now).routers defs.now.router ≡ true }
+    requires front { FitsFront (as_front front.now) }
+{
+    let mut site = MemorySite::new(alloc, &[])?;
+    take(
+        alloc,
+        defs,
+        scripts,
+        exits,
+        events,
+        messages,
+        front,
+        &mut site,
+        &mut run.steps,
+    )?;
+    run.log.append(site.contents(0))?;
+    read_groups(alloc, front, &mut site, run)
+}
+
+// Steps a core through a schedule, and drains it.
 fn take(
+    alloc: Global,
+    defs: &Defs,
+    scripts: &Scripts,
+    exits: &Exits,
+    events: &[Event],
+    messages: &[u8],
+    front: &Front,
+    site: &mut MemorySite,
+    steps: &mut Vec<Step>,
+) -> Result<(), Fault>
+    requires defs { AreDefs defs.now }
+    requires setup { IsSetup defs.now scripts.now.scripts }
+    requires router { has_kind (kinds_of exits.now).routers defs.now.router ≡ true }
+    requires front { FitsFront (as_front front.now) }
+{
+    let started = begun(alloc, defs, front, site)?;
+    let mut core = core_of(alloc, defs, scripts, exits, started)?;
+    take_events(alloc, &mut core, defs, events, messages, site, steps)
+}
+
+// Steps the core through a schedule, and drains it.
+fn take_events(
     alloc: Global,
     core: &mut Core<'_>,
     defs: &Defs,
@@ -256,6 +306,23 @@ fn take(
     let regions = defs.regions.len();
     let round = round(alloc, regions)?;
     let mut source = source_of(alloc, messages)?;
-    step_all(core, events, regions, site, &mut source, false, steps)?;
-    drain(core, &round, regions, site, &mut source, steps)
+    take_all(core, events, &round, regions, site, &mut source, steps)
+}
+
+// Steps the core through a schedule, and then in rounds.
+fn take_all(
+    core: &mut Core<'_>,
+    events: &[Event],
+    round: &[Event],
+    regions: usize,
+    site: &mut MemorySite,
+    source: &mut MemorySource,
+    steps: &mut Vec<Step>,
+) -> Result<(), Fault>
+    requires reached { (m : Machine) × IsReachedBy core.old.engine m }
+    requires routed { core.old.router.now.kind ≡ core.old.engine.defs.now.router }
+    requires regions { length core.old.engine.defs.now.regions ≡ regions }
+{
+    step_all(core, events, regions, site, source, false, steps)?;
+    drain(core, round, regions, site, source, steps)
 }

@@ -78,35 +78,56 @@ fn groups_word(alloc: Global, groups: Option<Span>) -> Result<String, AllocError
     }
 }
 
+// Appends a word that was made as a column.
+fn put_made(
+    text: &mut String,
+    word: Result<String, AllocError>,
+    width: usize,
+    before: bool,
+) -> Result<(), AllocError> {
+    put_column(text, &word?, width, before)
+}
+
+// Appends the columns of a turn.
+fn put_columns(
+    alloc: Global,
+    line: &mut String,
+    number: u64,
+    turn: &Turn,
+) -> Result<(), AllocError> {
+    put_made(line, number.to_string(alloc), TURN, true)?;
+    put_made(line, event_text(alloc, turn.step.event), EVENT, false)?;
+    put_column(line, did_word(turn.step.did), DID, false)?;
+    put_column(line, &turn.lock, LOCK, false)?;
+    put_made(line, number_word(alloc, turn.entry), ENTRY, true)?;
+    put_made(line, groups_word(alloc, turn.groups), ENTRY, true)?;
+    line.push_str(&turn.what)
+}
+
 // Appends the line of a turn.
 fn put_turn(alloc: Global, text: &mut String, number: u64, turn: &Turn) -> Result<(), AllocError> {
     let mut line = String::new(alloc);
-    put_column(&mut line, &number.to_string(alloc)?, TURN, true)?;
-    put_column(
-        &mut line,
-        &event_text(alloc, turn.step.event)?,
-        EVENT,
-        false,
-    )?;
-    put_column(&mut line, did_word(turn.step.did), DID, false)?;
-    put_column(&mut line, &turn.lock, LOCK, false)?;
-    put_column(&mut line, &number_word(alloc, turn.entry)?, ENTRY, true)?;
-    put_column(&mut line, &groups_word(alloc, turn.groups)?, ENTRY, true)?;
-    line.push_str(&turn.what)?;
+    put_columns(alloc, &mut line, number, turn)?;
     text.push_str(line.trim_end())?;
     text.push('\n')
 }
 
-/// A line for each turn, numbered from 1, and one where the schedule ends.
-pub(crate) fn table(alloc: Global, turns: &[Turn]) -> Result<String, AllocError> {
-    let mut text = String::from_str(alloc, HEAD)?;
+// Appends a line for each turn, and one where the schedule ends.
+fn put_turns(alloc: Global, text: &mut String, turns: &[Turn]) -> Result<(), AllocError> {
     let mut drains = false;
     for (at, turn) in turns.iter().enumerate() {
         if turn.step.in_drain && !drains {
             drains = true;
             text.push_str("      the schedule ends, and the drain begins\n")?;
         }
-        put_turn(alloc, &mut text, (at as u64).saturating_add(1), turn)?;
+        put_turn(alloc, text, (at as u64).saturating_add(1), turn)?;
     }
+    Ok(())
+}
+
+/// A line for each turn, numbered from 1, and one where the schedule ends.
+pub(crate) fn table(alloc: Global, turns: &[Turn]) -> Result<String, AllocError> {
+    let mut text = String::from_str(alloc, HEAD)?;
+    put_turns(alloc, &mut text, turns)?;
     Ok(text)
 }

@@ -29,6 +29,12 @@ pub(crate) fn put_name(text: &mut String, name: &Name) -> Result<(), AllocError>
     Ok(())
 }
 
+// Appends a blank and bytes.
+fn put_word(text: &mut String, bytes: &[u8]) -> Result<(), AllocError> {
+    text.push(' ')?;
+    put_bytes(text, bytes)
+}
+
 // The definition of a main storage database; none where there is no such number.
 fn def_of(defs: &Defs, db: u8) -> Option<&MsdbDef> {
     let db = usize::from(db);
@@ -82,10 +88,8 @@ fn put_keys(text: &mut String, ssas: &[Ssa]) -> Result<(), AllocError> {
 fn put_fsa(text: &mut String, fsa: &Fsa) -> Result<(), AllocError> {
     text.push(' ')?;
     put_name(text, &fsa.field)?;
-    text.push(' ')?;
-    put_bytes(text, &[fsa.op])?;
-    text.push(' ')?;
-    put_bytes(text, fsa.operand.as_slice())
+    put_word(text, &[fsa.op])?;
+    put_word(text, fsa.operand.as_slice())
 }
 
 // Appends field search arguments; nothing where the bytes are no list of them.
@@ -114,13 +118,11 @@ fn put_segment(
     if let Some(def) = def_of(defs, db) {
         put_msdb_line(alloc, &mut line, def, segment.as_slice())?;
     }
-    text.push(' ')?;
-    put_bytes(text, line.as_slice().trim_ascii())
+    put_word(text, line.as_slice().trim_ascii())
 }
 
-/// A call, as scripts have it, with its values.
-pub(crate) fn call_text(alloc: Global, defs: &Defs, call: &Call) -> Result<String, AllocError> {
-    let mut text = String::new(alloc);
+// Appends a call.
+fn put_call(alloc: Global, text: &mut String, defs: &Defs, call: &Call) -> Result<(), AllocError> {
     match call {
         Call::Get {
             get,
@@ -128,25 +130,62 @@ pub(crate) fn call_text(alloc: Global, defs: &Defs, call: &Call) -> Result<Strin
             db,
             ssas,
         } => {
-            put_head(&mut text, get_word(*get, *hold), defs, *db)?;
-            put_keys(&mut text, ssas.as_slice())?;
+            put_head(text, get_word(*get, *hold), defs, *db)?;
+            put_keys(text, ssas.as_slice())
         }
         Call::Fld { db, key, fsas } => {
-            put_head(&mut text, "FLD", defs, *db)?;
-            put_key(&mut text, key.as_slice())?;
-            put_fsas(alloc, &mut text, fsas)?;
+            put_head(text, "FLD", defs, *db)?;
+            put_key(text, key.as_slice())?;
+            put_fsas(alloc, text, fsas)
         }
         Call::Isrt { db, ssas: _, bytes } => {
-            put_head(&mut text, "ISRT", defs, *db)?;
-            put_segment(alloc, &mut text, defs, *db, bytes)?;
+            put_head(text, "ISRT", defs, *db)?;
+            put_segment(alloc, text, defs, *db, bytes)
         }
         Call::Repl { db, bytes } => {
-            put_head(&mut text, "REPL", defs, *db)?;
-            put_segment(alloc, &mut text, defs, *db, bytes)?;
+            put_head(text, "REPL", defs, *db)?;
+            put_segment(alloc, text, defs, *db, bytes)
         }
-        Call::Dlet { db } => put_head(&mut text, "DLET", defs, *db)?,
+        Call::Dlet { db } => put_head(text, "DLET", defs, *db),
     }
+}
+
+/// A call, as scripts have it, with its values.
+pub(crate) fn call_text(alloc: Global, defs: &Defs, call: &Call) -> Result<String, AllocError> {
+    let mut text = String::new(alloc);
+    put_call(alloc, &mut text, defs, call)?;
     Ok(text)
+}
+
+// Appends a status, and the letters of a field call.
+fn put_status(text: &mut String, answer: &Answer) -> Result<(), AllocError> {
+    put_word(text, &answer.status)?;
+    if !answer.letters.is_empty() {
+        text.push(' ')?;
+    }
+    for letter in answer.letters.as_slice() {
+        put_bytes(text, &[if *letter == b' ' { b'-' } else { *letter }])?;
+    }
+    Ok(())
+}
+
+// Appends a call and its answer.
+fn put_answered(
+    alloc: Global,
+    text: &mut String,
+    defs: &Defs,
+    call: &Call,
+    answer: &Answer,
+) -> Result<(), AllocError> {
+    put_call(alloc, text, defs, call)?;
+    text.push_str(" ->")?;
+    if answer.status != *b"  " {
+        return put_status(text, answer);
+    }
+    match call {
+        Call::Get { db, .. } => put_segment(alloc, text, defs, *db, &answer.bytes),
+        _ => text.push_str(" good"),
+    }
 }
 
 /// A call and its answer: the segment shown, or the status and the letters of a field call, a `-` for a good one.
@@ -156,24 +195,29 @@ pub(crate) fn answered_text(
     call: &Call,
     answer: &Answer,
 ) -> Result<String, AllocError> {
-    let mut text = call_text(alloc, defs, call)?;
-    text.push_str(" ->")?;
-    if answer.status == *b"  " {
-        match call {
-            Call::Get { db, .. } => put_segment(alloc, &mut text, defs, *db, &answer.bytes)?,
-            _ => text.push_str(" good")?,
-        }
-        return Ok(text);
-    }
-    text.push(' ')?;
-    put_bytes(&mut text, &answer.status)?;
-    if !answer.letters.is_empty() {
-        text.push(' ')?;
-    }
-    for letter in answer.letters.as_slice() {
-        put_bytes(&mut text, &[if *letter == b' ' { b'-' } else { *letter }])?;
-    }
+    let mut text = String::new(alloc);
+    put_answered(alloc, &mut text, defs, call, answer)?;
     Ok(text)
+}
+
+// Appends what a lock stands for.
+fn put_resource(
+    alloc: Global,
+    text: &mut String,
+    defs: &Defs,
+    resource: &Resource,
+) -> Result<(), AllocError> {
+    match resource {
+        Resource::Segment { msdb, key } => {
+            if let Some(def) = def_of(defs, *msdb) {
+                put_name(text, &def.name)?;
+            }
+            put_word(text, key.as_slice())
+        }
+        Resource::Anchor { dedb, anchor } => {
+            text.push_str(&format!(in alloc; "database {dedb} anchor {anchor}")?)
+        }
+    }
 }
 
 /// What a lock stands for: a database and a key.
@@ -183,20 +227,20 @@ pub(crate) fn resource_text(
     resource: &Resource,
 ) -> Result<String, AllocError> {
     let mut text = String::new(alloc);
-    match resource {
-        Resource::Segment { msdb, key } => {
-            if let Some(def) = def_of(defs, *msdb) {
-                put_name(&mut text, &def.name)?;
-            }
-            text.push(' ')?;
-            put_bytes(&mut text, key.as_slice())?;
-        }
-        Resource::Anchor { dedb, anchor } => {
-            let place = format!(in alloc; "database {dedb} anchor {anchor}")?;
-            text.push_str(&place)?;
-        }
-    }
+    put_resource(alloc, &mut text, defs, resource)?;
     Ok(text)
+}
+
+// Appends what stands behind the first blank of a line.
+fn put_behind(text: &mut String, line: &[u8]) -> Result<(), AllocError> {
+    let mut behind = false;
+    for byte in line {
+        if behind {
+            put_bytes(text, &[*byte])?;
+        }
+        behind = behind || *byte == b' ';
+    }
+    Ok(())
 }
 
 /// An entry, as the text of the log has it behind its place.
@@ -204,12 +248,6 @@ pub(crate) fn entry_text(alloc: Global, place: u64, entry: &Entry) -> Result<Str
     let mut line = Bytes::new(alloc);
     put_entry_line(alloc, &mut line, place, entry)?;
     let mut text = String::new(alloc);
-    let mut behind = false;
-    for byte in line.as_slice().trim_ascii_end() {
-        if behind {
-            put_bytes(&mut text, &[*byte])?;
-        }
-        behind = behind || *byte == b' ';
-    }
+    put_behind(&mut text, line.as_slice().trim_ascii_end())?;
     Ok(text)
 }

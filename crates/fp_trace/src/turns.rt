@@ -184,6 +184,37 @@ impl Teller<'_> {
         Ok(turn)
     }
 
+    // What is followed of a region goes on with a turn that has no call and no lock.
+    fn follow(
+        &self,
+        shadow: &mut Shadow<'_>,
+        region: u8,
+        did: Did,
+        behind: &[Step],
+    ) -> Result<(), Fault>
+        requires shadow { IsShadow shadow.old }
+        requires some { 1 ≤ region }
+        requires within { region ≤ 64 }
+        ensures { OnOk result (IsShadow shadow.new) }
+    {
+        match did {
+            Did::Took => shadow.took(region, self.taken(region, behind)),
+            Did::Committed => shadow.committed(region),
+            Did::Refused => shadow.refused(region),
+            Did::Retried => shadow.retried(region),
+            _ => Ok(()),
+        }
+    }
+
+    // A turn of a region that has no call and no lock.
+    fn plain(&mut self, region: u8, step: Step, behind: &[Step]) -> Result<Turn, AllocError> {
+        match step.did {
+            Did::Took => self.about(step, self.taken(region, behind)),
+            Did::Committed | Did::Refused => self.append(step),
+            _ => Ok(self.turn(step)),
+        }
+    }
+
     // The turn of a region, which is followed beside the core.
     fn region(
         &mut self,
@@ -198,28 +229,15 @@ impl Teller<'_> {
         requires within { region ≤ 64 }
         ensures { OnOk result (IsShadow shadow.new) }
     {
-        match step.did {
-            Did::Took => {
-                let line = self.taken(region, behind);
-                shadow.took(region, line)?;
-                Ok(self.about(step, line)?)
+        let told = match step.did {
+            Did::Answered => shadow.answered(region, exits)?,
+            Did::Gained | Did::Waited => shadow.asked(region, exits)?,
+            did => {
+                self.follow(shadow, region, did, behind)?;
+                return Ok(self.plain(region, step, behind)?);
             }
-            Did::Answered => Ok(self.told(step, shadow.answered(region, exits)?)),
-            Did::Gained | Did::Waited => Ok(self.told(step, shadow.asked(region, exits)?)),
-            Did::Committed => {
-                shadow.committed(region)?;
-                Ok(self.append(step)?)
-            }
-            Did::Refused => {
-                shadow.refused(region)?;
-                Ok(self.append(step)?)
-            }
-            Did::Retried => {
-                shadow.retried(region)?;
-                Ok(self.turn(step))
-            }
-            _ => Ok(self.turn(step)),
-        }
+        };
+        Ok(self.told(step, told))
     }
 
     // A turn about a call and a lock.
@@ -256,18 +274,33 @@ impl Teller<'_> {
     }
 }
 
-/// The turns of a run over these messages.
-pub(crate) fn turns_of(
+// Appends the turns of a run.
+fn tell(
+    teller: &mut Teller<'_>,
+    shadow: &mut Shadow<'_>,
+    exits: &Exits,
+    steps: &[Step],
+    turns: &mut Vec<Turn>,
+) -> Result<(), Fault>
+    requires { IsShadow shadow.old }
+{
+    for (at, step) in steps.iter().enumerate() {
+        let turn = teller.next(shadow, exits, *step, &steps[at + 1..])?;
+        turns.push(turn)?;
+    }
+    Ok(())
+}
+
+// The turns of a run over these messages, which are followed from its beginning on.
+fn told_turns(
     alloc: Global,
-    defs: &Defs,
-    scripts: &Scripts,
+    shadow: &mut Shadow<'_>,
     exits: &Exits,
     run: &Run,
     messages: &[u8],
 ) -> Result<Vec<Turn>, Fault>
-    requires { IsSetup defs.now scripts.now.scripts }
+    requires { IsShadow shadow.old }
 {
-    let mut shadow = Shadow::new(alloc, defs, scripts)?;
     let mut teller = Teller {
         alloc,
         run,
@@ -280,9 +313,21 @@ pub(crate) fn turns_of(
         groups: 0,
     };
     let mut turns = Vec::new(alloc);
-    for (at, step) in run.steps.iter().enumerate() {
-        let turn = teller.next(&mut shadow, exits, *step, &run.steps[at + 1..])?;
-        turns.push(turn)?;
-    }
+    tell(&mut teller, shadow, exits, &run.steps, &mut turns)?;
     Ok(turns)
+}
+
+/// The turns of a run over these messages.
+pub(crate) fn turns_of(
+    alloc: Global,
+    defs: &Defs,
+    scripts: &Scripts,
+    exits: &Exits,
+    run: &Run,
+    messages: &[u8],
+) -> Result<Vec<Turn>, Fault>
+    requires { IsSetup defs.now scripts.now.scripts }
+{
+    let mut shadow = Shadow::new(alloc, defs, scripts)?;
+    told_turns(alloc, &mut shadow, exits, run, messages)
 }
