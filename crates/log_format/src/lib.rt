@@ -28,11 +28,10 @@ pub use laws::{
     fields_are_lawful, no_group_begins_another, no_spelling_begins_another,
     the_first_bad_place_is_one,
 };
-pub use puts::{put_long, put_numbers, put_part, put_short, put_u16, put_u32, put_u64};
+pub use puts::{put_part, put_u16, put_u32, put_u64};
 pub use reading::entries;
 pub use sizes::entry_length;
 pub use takes::{
-    byte_of, long_of, number_of, numbers_of, part_of, part_text_of, short_of, u16_of, u32_of,
-    u64_of,
+    byte_of, long_of, number_of, numbers_of, part_of, short_of, u16_of, u32_of, u64_of,
 };
 pub use writing::{put_entry, write_entry};

@@ -3,7 +3,7 @@
 //! Each takes the front of the bytes and answers the value with what is left behind it. `Bad`: the bytes end
 //! too early. The clause of each says what reading gives in every case but want of memory, and of those of numbers, which
 //! take none, that no other fault comes.
-ghost use Rattle.log_format.specs.Reading.{Gives, byte_at, number_at, part_at, short_at, long_at, part_text_at, many_at, counted_at};
+ghost use Rattle.log_format.specs.Reading.{Gives, byte_at, number_at, part_at, short_at, long_at, many_at, counted_at};
 ghost use Rattle.log_format.specs.declared.fault.ReadError.TheVariants.{Bad};
 ghost use Rattle.fp_model.specs.Spellings.{be64};
 ghost use Rattle.std.specs.Int.{from_be_bytes, w16, w32, w64};
@@ -102,16 +102,6 @@ pub fn long_of(alloc: Global, bytes: &[u8]) -> Result<(Bytes, &[u8]), ReadError>
     ensures { Gives (λ x. (x.0, x.1.now)) result (long_at bytes.now) }
 {
     let (n, rest) = u16_of(bytes)?;
-    let n = n as usize;
-    part_of(alloc, n, rest)
-}
-
-/// A text behind its length in four bytes.
-#[tactic(auto, unfolding(crate::specs::Reading::part_text_at))]
-pub fn part_text_of(alloc: Global, bytes: &[u8]) -> Result<(Bytes, &[u8]), ReadError>
-    ensures { Gives (λ x. (x.0, x.1.now)) result (part_text_at bytes.now) }
-{
-    let (n, rest) = u32_of(bytes)?;
     let n = n as usize;
     part_of(alloc, n, rest)
 }
