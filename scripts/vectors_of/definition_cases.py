@@ -463,7 +463,7 @@ def raw_texts():
         b"regions = [1]\nrouter = \"FOLD\"\nmsdb = [{name = \"M\", fields = [[\"K\", \"C\", 1]]}]\n",
         b"regions = [1]\nrouter = \"FOLD\"\n[msdb]\nname = \"M\"\n", b"[[regions]]\n",
         b"regions = [1]\nrouter = \"FOLD\"\nmsdb = 'x'\nmsdb = 1\n",
-        b"#" * 1_000_001,
+        b"#" * 1_000_000, b"#" * 1_000_001,
     ]
 
 

@@ -19,12 +19,6 @@ pub record AreCustomerTypes (types : List SegDef) : Type 0 where
   pub serials : has_sequential types ≡ true
   pub notes : sequential_length types ≡ 8
 
--- a root of 12 bytes, and a sequential type below it
-pub record AreClientTypes (types : List SegDef) : Type 0 where
-  pub below_root : child_types types 0 ≡ []
-  pub root : HasLength types 0 12
-  pub serials : has_sequential types ≡ true
-
 -- two child types and two levels: a root of 12 bytes, a type of 6 below it with one of 4 below that, and a type of 9 below
 -- the root
 pub record AreFamilyTypes (types : List SegDef) : Type 0 where

@@ -194,26 +194,6 @@ fn items_and_their_notes_are_read(rt: HostRuntime) -> Result<(), Fail> {
     Ok(())
 }
 
-/// Whether areas have the two anchors of the database alone.
-fn have_two_anchors(areas: &Areas) -> bool {
-    areas.has_anchor(0, 1) && !areas.has_anchor(0, 2) && !areas.has_anchor(1, 0)
-}
-
-/// Whether the areas over a site do.
-fn has_two_anchors(alloc: Global, site: &mut MemorySite) -> Result<bool, Fail> {
-    match opened(alloc, site, &[])? {
-        Some(areas) => Ok(have_two_anchors(&areas)),
-        None => Ok(false),
-    }
-}
-
-#[test]
-fn the_area_has_two_anchors(rt: HostRuntime) -> Result<(), Fail> {
-    let mut site = MemorySite::new(rt.alloc(), &[])?;
-    assert!(rt; has_two_anchors(rt.alloc(), &mut site)?);
-    Ok(())
-}
-
 /// Bytes that are written over the items, and where the damage is that they make at the first anchor.
 static DAMAGES: [(Patch, u64); 5] = [
     // Control is of kind 2.
@@ -241,7 +221,21 @@ fn names(
     }
 }
 
-/// Whether it does where these bytes are written over the items of a site. None where they can't be.
+/// Whether it does where these bytes are written over others of the site. None where they can't be.
+fn names_patched(
+    alloc: Global,
+    areas: &mut Areas,
+    site: &mut MemorySite,
+    patch: &Patch,
+    at: u64,
+) -> Result<Option<bool>, Fail> {
+    if !write(site, &[*patch]) {
+        return Ok(None);
+    }
+    Ok(Some(names(alloc, areas, site, at)?))
+}
+
+/// So it is where they are written over the items.
 fn names_over(
     alloc: Global,
     site: &mut MemorySite,
@@ -249,10 +243,8 @@ fn names_over(
     at: u64,
 ) -> Result<Option<bool>, Fail> {
     match opened(alloc, site, &ITEMS)? {
-        Some(mut areas) if write(site, &[*patch]) => {
-            Ok(Some(names(alloc, &mut areas, site, at)?))
-        }
-        _ => Ok(None),
+        Some(mut areas) => names_patched(alloc, &mut areas, site, patch, at),
+        None => Ok(None),
     }
 }
 

@@ -2,7 +2,7 @@
 //! areas over sites from one commit to the next.
 //!
 //! They stand here and not in the crates that they test, since a crate with tests is proved twice. Which bytes are an
-//! interval is data of a program above.
+//! interval, and what taking, typing and freeing elements makes of one, is data of a program above.
 #![tactic(auto)]
 
 #[cfg(test)]
@@ -31,8 +31,6 @@ mod logging;
 mod memory;
 #[cfg(test)]
 mod overflow;
-#[cfg(test)]
-mod places;
 #[cfg(test)]
 mod pool;
 #[cfg(test)]

@@ -125,7 +125,7 @@ impl MemoryArea {
 }
 
 /// Whether bytes have these from a place on.
-pub fn stand_at(all: &[u8], at: usize, bytes: &[u8]) -> bool {
+fn stand_at(all: &[u8], at: usize, bytes: &[u8]) -> bool {
     let mut there = all.iter().skip(at);
     bytes.iter().all(|byte| there.next() == Some(byte))
 }

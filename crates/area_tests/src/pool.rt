@@ -232,21 +232,26 @@ fn fails(pool: &mut Pool, site: &mut MemorySite) -> bool {
     matches!(pool.get(site, 4, 5, 512), Err(PoolFault::Failed))
 }
 
-/// Gets interval 4 of data set 4, over a site whose calls fail from this number on, and, where that succeeds, it once
-/// more and interval 5. Whether the two are the same bytes and the third failed.
-fn got_again(alloc: Global, stop: u64) -> Result<Option<bool>, AllocError> {
+/// Gets interval 4 of data set 4, and, where that succeeds, it once more and interval 5. Whether the two are the same
+/// bytes and the third failed.
+fn got_again(pool: &mut Pool, site: &mut MemorySite) -> Option<bool> {
+    match pool.get(site, 4, 4, 512) {
+        Ok(first) => Some(gets(pool, site, &first) && fails(pool, site)),
+        Err(_) => None,
+    }
+}
+
+/// So it is over a site whose calls fail from this number on.
+fn got_again_till(alloc: Global, stop: u64) -> Result<Option<bool>, AllocError> {
     let mut pool = Pool::new(alloc, 1)?;
     let mut site = MemorySite::stopping(alloc, stop)?;
-    match pool.get(&mut site, 4, 4, 512) {
-        Ok(first) => Ok(Some(gets(&mut pool, &mut site, &first) && fails(&mut pool, &mut site))),
-        Err(_) => Ok(None),
-    }
+    Ok(got_again(&mut pool, &mut site))
 }
 
 #[test]
 fn a_listed_interval_is_not_read_again(rt: HostRuntime) -> Result<(), Fail> {
     for stop in 0..8 {
-        if let Some(good) = got_again(rt.alloc(), stop)? {
+        if let Some(good) = got_again_till(rt.alloc(), stop)? {
             assert!(rt; good, "stop {stop}");
             assert!(rt; stop == 1);
             return Ok(());

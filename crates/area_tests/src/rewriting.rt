@@ -23,68 +23,7 @@ fn area(rt: &HostRuntime, seq_cis: u32) -> Result<MemoryArea, Fail> {
     formatted(rt, [1, 1, 0, 0], 2, seq_cis)
 }
 
-// ---- rows that become longer and shorter
-
-/// An anchor and its parents, step by step: rows become longer and shorter, a parent changes its name and another its
-/// key, and two anchors of one unit of work share its overflow.
-static STEPS: [(u32, &[Row; 3]); 6] = [
-    (
-        2,
-        &[
-            (1, b'A', &[2, 1], 2),
-            (2, b'B', &[0, 1], 1),
-            (3, b'C', &[1, 1], 0),
-        ],
-    ),
-    (
-        3,
-        &[
-            (4, b'D', &[9, 1], 9),
-            (5, b'E', &[9, 1], 9),
-            (6, b'F', &[9, 1], 9),
-        ],
-    ),
-    (
-        2,
-        &[
-            (1, b'A', &[9, 1], 9),
-            (2, b'X', &[0, 1], 1),
-            (3, b'C', &[1, 1], 2),
-        ],
-    ),
-    (
-        3,
-        &[
-            (4, b'D', &[1, 1], 0),
-            (5, b'E', &[9, 1], 9),
-            (7, b'F', &[2, 1], 3),
-        ],
-    ),
-    (
-        2,
-        &[
-            (1, b'A', &[0, 1], 0),
-            (2, b'X', &[0, 1], 0),
-            (3, b'C', &[0, 1], 0),
-        ],
-    ),
-    (
-        2,
-        &[
-            (0, b'N', &[3, 1], 3),
-            (2, b'X', &[12, 1], 12),
-            (9, b'C', &[12, 1], 12),
-        ],
-    ),
-];
-
-/// The steps that are the last of the anchors 2 and 3.
-static LASTS: [usize; 2] = [5, 3];
-
-/// The parents of a step.
-fn parents(rows: &[Row; 3]) -> [Parent; 3] {
-    [of_row(rows[0]), of_row(rows[1]), of_row(rows[2])]
-}
+// ---- one parent
 
 /// Whether an anchor has just these parents.
 fn has(alloc: Global, area: &mut MemoryArea, anchor: u32, list: &[Parent]) -> Result<bool, Fail>
@@ -95,14 +34,6 @@ fn has(alloc: Global, area: &mut MemoryArea, anchor: u32, list: &[Parent]) -> Re
     Ok(has_roots(alloc, area, &shape(2, 1), &types, anchor, &roots))
 }
 
-/// Whether an anchor has the parents of a step.
-fn has_step(alloc: Global, area: &mut MemoryArea, number: usize) -> Result<bool, Fail> {
-    let Some((anchor, list)) = STEPS.get(number) else {
-        return Ok(false);
-    };
-    Ok(*anchor < 4 && has(alloc, area, *anchor, &parents(list))?)
-}
-
 /// Stores parents at an anchor. Whether the call succeeds.
 fn stores(alloc: Global, area: &mut MemoryArea, anchor: u32, list: &[Parent]) -> Result<bool, Fail>
     requires { anchor < 4 }
@@ -110,29 +41,6 @@ fn stores(alloc: Global, area: &mut MemoryArea, anchor: u32, list: &[Parent]) ->
     let types = family_types(alloc)?;
     let roots = roots(alloc, list, NOBODY)?;
     Ok(store(alloc, area, &shape(2, 1), &types, anchor, &roots).is_ok())
-}
-
-/// Stores the parents of a step. Whether the anchor has just them then.
-fn takes_step(alloc: Global, area: &mut MemoryArea, number: usize) -> Result<bool, Fail> {
-    let Some((anchor, list)) = STEPS.get(number) else {
-        return Ok(false);
-    };
-    if *anchor >= 4 || !stores(alloc, area, *anchor, &parents(list))? {
-        return Ok(false);
-    }
-    has_step(alloc, area, number)
-}
-
-#[test]
-fn rows_of_two_types_and_levels_are_kept(rt: HostRuntime) -> Result<(), Fail> {
-    let mut area = area(&rt, 1)?;
-    for number in 0..STEPS.len() {
-        assert!(rt; takes_step(rt.alloc(), &mut area, number)?, "step {number}");
-    }
-    for number in &LASTS {
-        assert!(rt; has_step(rt.alloc(), &mut area, *number)?, "step {number}");
-    }
-    Ok(())
 }
 
 /// A parent, and how often intervals are got and put when it is stored. It has three times as many addresses as its

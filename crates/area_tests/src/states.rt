@@ -256,6 +256,18 @@ fn counts(alloc: Global, area: &mut MemoryArea, place: &Place, anchor: u32, coun
     }
 }
 
+/// Whether the root of a number has the bytes of this one, and this newest serial.
+fn has_root(roots: &List<Root>, number: usize, wanted: &Root, newest: u64) -> bool {
+    let Some(root) = roots.as_slice().get(number) else {
+        return false;
+    };
+    let serial = match root.seqs.as_slice().first() {
+        Some(item) => item.serial,
+        None => 0,
+    };
+    root.bytes == wanted.bytes && serial == newest
+}
+
 /// Whether a customer stands at an anchor with this number, these bytes and this newest serial.
 fn stands(
     alloc: Global,
@@ -268,17 +280,10 @@ fn stands(
 {
     let (key, name, newest) = one;
     let wanted = customer(alloc, &[key], &[name])?;
-    let Some(roots) = roots_at(alloc, area, place, at.0) else {
-        return Ok(false);
-    };
-    let Some(root) = roots.as_slice().get(at.1) else {
-        return Ok(false);
-    };
-    let serial = match root.seqs.as_slice().first() {
-        Some(item) => item.serial,
-        None => 0,
-    };
-    Ok(root.bytes == wanted.bytes && serial == newest)
+    Ok(match roots_at(alloc, area, place, at.0) {
+        Some(roots) => has_root(&roots, at.1, &wanted, newest),
+        None => false,
+    })
 }
 
 /// Whether the notes from a serial down are these.

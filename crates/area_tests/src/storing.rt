@@ -1,5 +1,5 @@
 //! Roots of an anchor are stored, against what is loaded then and against bytes written by hand.
-ghost use Rattle.std.specs.Prelude.{◌<◌, ◌≤◌, ◌*◌, length};
+ghost use Rattle.std.specs.Prelude.{◌<◌, ◌*◌};
 
 use crate::customers::{Customer, roots, segment_of};
 use crate::memory::{MemoryArea, formatted, shape};
@@ -371,109 +371,6 @@ fn the_same_again_is_not_written(rt: HostRuntime) -> Result<(), Fail> {
         let before = area.calls();
         assert!(rt; put(&rt, &mut area, 1, 1, &LENDER)?);
         assert!(rt; area.calls_since(before).1 == *puts, "{puts}");
-    }
-    Ok(())
-}
-
-// ---- many stores at eight anchors
-
-/// The place of the first in a list whose number isn't below this.
-fn place_of(list: &[Customer], number: u8) -> usize
-    ensures { result ≤ length list.now }
-{
-    for (place, customer) in list.iter().enumerate() {
-        if number <= customer.number {
-            return place;
-        }
-    }
-    list.len()
-}
-
-/// A customer that a number says.
-fn drawn(seed: u32) -> Customer {
-    Customer {
-        number: (seed >> 16 & 31) as u8,
-        name: b'A' + (seed >> 24 & 15) as u8,
-        newest: (seed >> 12 & 3) as u8,
-        loan: if seed & 0x800 == 0 {
-            None
-        } else {
-            Some((seed >> 13 & 63) as u8)
-        },
-    }
-}
-
-/// Puts a root into a list, changes it there, or takes it out.
-fn change(list: &mut Vec<Customer>, seed: u32) -> Result<(), Fail> {
-    let customer = drawn(seed);
-    let place = place_of(list, customer.number);
-    if place < list.len() && list[place].number == customer.number {
-        if seed >> 31 == 0 {
-            list[place] = customer;
-        } else {
-            list.remove(place);
-        }
-    } else {
-        list.insert(place, customer)?;
-    }
-    Ok(())
-}
-
-/// Eight changes, from a fixed sequence of numbers.
-fn change_eight(list: &mut Vec<Customer>, first: u32) -> Result<(), Fail> {
-    let mut seed = first;
-    for _ in 0..8 {
-        seed = seed.wrapping_mul(22_695_477).wrapping_add(1);
-        change(list, seed)?;
-    }
-    Ok(())
-}
-
-/// Whether each anchor has what its list says.
-fn all_hold(
-    rt: &HostRuntime,
-    area: &mut MemoryArea,
-    lists: &[Vec<Customer>],
-) -> Result<bool, Fail> {
-    for anchor in 0..8u32 {
-        if let Some(list) = lists.get(anchor as usize) {
-            if !has(rt, area, 4, anchor, list)? {
-                return Ok(false);
-            }
-        }
-    }
-    Ok(true)
-}
-
-/// A store at one of eight anchors, the anchor and the change taken from a number. Whether each anchor has what its
-/// list says then.
-fn turn(
-    rt: &HostRuntime,
-    area: &mut MemoryArea,
-    lists: &mut Vec<Vec<Customer>>,
-    seed: u32,
-) -> Result<bool, Fail> {
-    let anchor = (seed >> 9) % 8;
-    if let Some(list) = lists.get_mut(anchor as usize) {
-        change_eight(list, seed)?;
-        if !put(rt, area, 4, anchor, list)? {
-            return Ok(false);
-        }
-    }
-    all_hold(rt, area, lists)
-}
-
-#[test]
-fn each_anchor_keeps_its_roots(rt: HostRuntime) -> Result<(), Fail> {
-    let mut area = area(&rt, 4)?;
-    let mut lists = Vec::new(rt.alloc());
-    for _ in 0..8 {
-        lists.push(Vec::new(rt.alloc()))?;
-    }
-    let mut seed: u32 = 1977;
-    for turns in 0..100 {
-        seed = seed.wrapping_mul(1_664_525).wrapping_add(1_013_904_223);
-        assert!(rt; turn(&rt, &mut area, &mut lists, seed)?, "turn {turns}");
     }
     Ok(())
 }

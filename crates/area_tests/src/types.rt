@@ -1,6 +1,6 @@
 //! Segment types, and what an anchor of such types has.
 ghost use Rattle.std.specs.Prelude.{◌≡◌, ◌<◌, IfOk};
-ghost use Rattle.area_tests.specs.Types.{AreClientTypes, AreCustomerTypes, AreFamilyTypes};
+ghost use Rattle.area_tests.specs.Types.{AreCustomerTypes, AreFamilyTypes};
 ghost use Rattle.anchor_elements.specs.Elements.{AreTypes};
 ghost use Rattle.root_anchor.specs.Chains.{anchor_count};
 
@@ -47,17 +47,6 @@ pub fn customer_types(alloc: Global) -> Result<List<SegDef>, AllocError>
     types.push(segment(alloc, None, false, 4, 16)?)?;
     types.push(segment(alloc, Some(0), true, 4, 8)?)?;
     types.push(segment(alloc, Some(0), false, 2, 6)?)?;
-    Ok(types)
-}
-
-/// CLIENT, and NOTE below it, which is sequential.
-pub fn client_types(alloc: Global) -> Result<List<SegDef>, AllocError>
-    ensures types { IfOk result (AreTypes 512) }
-    ensures clients { IfOk result AreClientTypes }
-{
-    let mut types = List::new(alloc);
-    types.push(segment(alloc, None, false, 2, 12)?)?;
-    types.push(segment(alloc, Some(0), true, 2, 8)?)?;
     Ok(types)
 }
 

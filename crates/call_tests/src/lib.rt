@@ -1,7 +1,8 @@
-//! Tests of what a transaction asks and what it is answered: scripts, calls to databases, trees of segments, commits,
-//! and the audit's second writing of these.
+//! Tests of what a transaction asks and what it is answered: scripts that run, calls to databases, edits of trees,
+//! commits, and the audit's second writing of these.
 //!
-//! They stand here and not in the crates that they test, since a crate with tests is proved twice.
+//! They stand here and not in the crates that they test, since a crate with tests is proved twice. Which texts are
+//! definitions or scripts, and drawn calls, are data of programs above.
 #![tactic(auto)]
 
 #[cfg(test)]
@@ -13,8 +14,6 @@ mod audits;
 #[cfg(test)]
 mod customers;
 #[cfg(test)]
-mod definitions;
-#[cfg(test)]
 mod places;
 #[cfg(test)]
 mod programs;
@@ -25,8 +24,6 @@ mod reruns;
 #[cfg(test)]
 mod schedules;
 #[cfg(test)]
-mod scripts;
-#[cfg(test)]
 mod stores;
 #[cfg(test)]
 mod sync_points;
@@ -36,7 +33,5 @@ mod systems;
 mod transactions;
 #[cfg(test)]
 mod tree_edits;
-#[cfg(test)]
-mod tree_searches;
 #[cfg(test)]
 mod trees;

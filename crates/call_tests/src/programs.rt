@@ -5,13 +5,11 @@ ghost use Rattle.std.specs.Prelude.{◌≡◌, ◌<◌, IfSome, length};
 
 use self::End::{Reply, Roll};
 use self::Turn::{Lettered, Shows, Told};
-use crate::definitions::sample;
-use crate::scripts::read;
-use crate::systems::{SAMPLE, message};
+use crate::systems::{SAMPLE, message, sample};
 use fp_model::{Answer, Bytes, Call, Defs, Get, List, Message, Name, Ssa};
 use std::alloc::{AllocError, Global};
 use std::test::Fail;
-use txn_lang::Scripts;
+use txn_lang::{Scripts, parse};
 use txn_machine::{Next, Program};
 
 // A call that is wanted, as `spelled` spells it, and what it is answered.
@@ -242,7 +240,7 @@ fn runs_by(
 ) -> Result<bool, Fail>
     requires { AreDefs defs.now }
 {
-    let scripts = read(alloc, text, defs)?;
+    let scripts = parse(alloc, text, defs)?;
     let runs = runs(alloc, &scripts, defs, message, turns, end);
     drop(scripts);
     runs
@@ -380,7 +378,7 @@ static OF_ACCOUNTS: [Case; 13] = [
 ];
 
 // Those of customers come behind them.
-static OF_CUSTOMERS: [Case; 13] = [
+static OF_CUSTOMERS: [Case; 14] = [
     Case(
         b"NEWCUST ",
         b"C001 ANN",
@@ -469,6 +467,12 @@ static OF_CUSTOMERS: [Case; 13] = [
         Reply(b"C002 C001"),
     ),
     Case(b"LISTC   ", b"", &[Told(b"GN 2 0,", *b"GB")], Reply(b"")),
+    Case(
+        b"NEXT    ",
+        b"",
+        &[Told(b"GHNP 2 1,", *b"GE"), Told(b"GU 0 0=GE  ,", *b"GE")],
+        Reply(b"GE"),
+    ),
 ];
 
 // Those of tellers come last.
@@ -501,7 +505,7 @@ static OF_TELLERS: [Case; 4] = [
 ];
 
 // How many cases there are.
-const COUNT: usize = 30;
+const COUNT: usize = 31;
 
 // The check pays for a table in each function that names it, and more than twice for one twice as long.
 fn of_accounts() -> &'static [Case] {
@@ -523,10 +527,10 @@ fn case_at(place: usize) -> Option<&'static Case> {
     if place < 13 {
         return of_accounts().get(place);
     }
-    if place < 26 {
+    if place < 27 {
         return of_customers().get(place - 13);
     }
-    of_tellers().get(place - 26)
+    of_tellers().get(place - 27)
 }
 
 // The first case that goes otherwise with these scripts; the number of cases where there is none.
@@ -557,7 +561,7 @@ fn ends(alloc: Global, lines: &str, end: &End) -> Result<bool, Fail> {
     goes(alloc, text.as_bytes(), b"A       ", b" ab cd ", &[], end)
 }
 
-static LINES: [(&str, End); 27] = [
+static LINES: [(&str, End); 29] = [
     // Values.
     ("REPLY 007", Reply(b"7")),
     ("REPLY -0", Reply(b"0")),
@@ -580,6 +584,14 @@ static LINES: [(&str, End); 27] = [
     (
         "IF '2' GT '10'\nREPLY 'text'\nELSE\nREPLY 'number'\nEND",
         Reply(b"number"),
+    ),
+    (
+        "IF 2 LE 2\nIF '2' LE '10'\nREPLY 'number'\nELSE\nREPLY 'text'\nEND\nEND",
+        Reply(b"number"),
+    ),
+    (
+        "IF 3 GE 4\nELSE\nIF 4 GE 4\nREPLY 'same'\nEND\nEND",
+        Reply(b"same"),
     ),
     ("SET V 1", Reply(b"")),
     // Values that there aren't.

@@ -1,7 +1,7 @@
 //! Schedules over the definitions of the sample: two regions, and the areas AREA1 and AREA2 in the data sets 3 and 4.
 ghost use Rattle.fp_model.specs.WellFormed.{AreDefs};
 
-use crate::definitions::sample;
+use crate::systems::sample;
 use fp_model::{Defs, Event};
 use fp_schedule::{ScheduleFault, read_events};
 use std::alloc::{AllocError, Global};

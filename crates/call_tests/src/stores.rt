@@ -20,8 +20,11 @@ fn empty(alloc: Global, defs: &Defs) -> Result<MsdbStore, AllocError>
     MsdbStore::new(alloc, defs, msdbs)
 }
 
-// Segments in any order, one of them twice, one taken away again, and one that isn't there taken away.
-static SEGMENTS: [(&[u8], &[u8]); 6] = [
+// Segments in any order, one of them twice, one taken away again, and one that isn't there taken away. Keys are in the
+// order of their bytes, whatever they are.
+static SEGMENTS: [(&[u8], &[u8]); 8] = [
+    (b"\x80\x00\x00\x00", b"\x80\x00\x00\x00eeee"),
+    (b"\x00\x00\x00\xff", b"\x00\x00\x00\xffffff"),
     (b"C003", b"C003dddd"),
     (b"A001", b"A001aaaa"),
     (b"B002", b"B002bbbb"),
@@ -43,7 +46,9 @@ fn items(alloc: Global) -> Result<List<Item>, AllocError> {
 }
 
 // A key, and the segment that stands there.
-static AT: [(&[u8], Option<&[u8]>); 4] = [
+static AT: [(&[u8], Option<&[u8]>); 6] = [
+    (b"\x80\x00\x00\x00", Some(b"\x80\x00\x00\x00eeee")),
+    (b"\x00\x00\x00\x80", None),
     (b"A001", Some(b"A001cccc")),
     (b"B002", None),
     (b"C003", Some(b"C003dddd")),
@@ -51,11 +56,13 @@ static AT: [(&[u8], Option<&[u8]>); 4] = [
 ];
 
 // A key or none, and the segment that is the first behind it.
-static AFTER: [(Option<&[u8]>, Option<&[u8]>); 4] = [
-    (None, Some(b"A001cccc")),
+static AFTER: [(Option<&[u8]>, Option<&[u8]>); 6] = [
+    (None, Some(b"\x00\x00\x00\xffffff")),
+    (Some(b"\x00\x00\x00\xff"), Some(b"A001cccc")),
     (Some(b"A000"), Some(b"A001cccc")),
     (Some(b"A001"), Some(b"C003dddd")),
-    (Some(b"C003"), None),
+    (Some(b"C003"), Some(b"\x80\x00\x00\x00eeee")),
+    (Some(b"\xff\xff\xff\xff"), None),
 ];
 
 // Puts the segments into a store.

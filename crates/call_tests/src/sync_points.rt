@@ -99,7 +99,7 @@ fn draft(alloc: Global, from: u64, row: &Row) -> Result<Draft, AllocError>
     ensures line { IfOk result (λ draft. length draft.line < 2 ^ 16) }
     ensures reply { IfOk result (λ draft. length draft.reply < 2 ^ 16) }
 {
-    let deferred = queue(alloc, row.calls[0], Some(row.calls[1]))?;
+    let deferred = queue(alloc, row.calls)?;
     let line = Bytes::from_slice(alloc, b"T1 MOVE")?;
     let reply = Bytes::from_slice(alloc, b"DONE")?;
     Ok(Draft {

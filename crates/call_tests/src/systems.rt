@@ -9,9 +9,7 @@ ghost use Rattle.std.specs.List.{AllByRecursion};
 ghost use Rattle.std.specs.Prelude.{◌≡◌, IfOk, true};
 
 use fp_defs::read_defs;
-use fp_exits::{
-    Exits, Router, Routing, Spreader, Spreading, fold_group, fold_place, range_group, range_place,
-};
+use fp_exits::{Exits, Router, Routing, Spreader, Spreading, fold_group, fold_place};
 use fp_model::{Bytes, Defs, Kind, Message, Name};
 use std::alloc::{AllocError, Global};
 use std::test::Fail;
@@ -30,17 +28,6 @@ fn folding_router(alloc: Global) -> Result<Router, AllocError> {
     Ok(Router::new(Kind::Fold, f))
 }
 
-fn range_router(alloc: Global) -> Result<Router, AllocError> {
-    let f: Routing = Box::new(
-        alloc,
-        |tran: &Name, n: u64| -> u64
-            requires { IsRoutable tran.now n }
-            ensures { result ≡ route Kind.Range n tran.now }
-        { range_group(tran, n) },
-    )?;
-    Ok(Router::new(Kind::Range, f))
-}
-
 fn folding_spreader(alloc: Global) -> Result<Spreader, AllocError> {
     let f: Spreading = Box::new(
         alloc,
@@ -52,54 +39,14 @@ fn folding_spreader(alloc: Global) -> Result<Spreader, AllocError> {
     Ok(Spreader::new(Kind::Fold, f))
 }
 
-fn range_spreader(alloc: Global) -> Result<Spreader, AllocError> {
-    let f: Spreading = Box::new(
-        alloc,
-        |key: &[u8], n: u64| -> u64
-            requires { IsSpreadable key.now n }
-            ensures { result ≡ spread Kind.Range n key.now }
-        { range_place(key, n) },
-    )?;
-    Ok(Spreader::new(Kind::Range, f))
-}
-
-fn routers(alloc: Global, kinds: &[Kind]) -> Result<Vec<Router>, AllocError> {
-    let mut routers = Vec::new(alloc);
-    for kind in kinds {
-        routers.push(match kind {
-            Kind::Fold => folding_router(alloc)?,
-            Kind::Range => range_router(alloc)?,
-        })?;
-    }
-    Ok(routers)
-}
-
-fn spreaders(alloc: Global, kinds: &[Kind]) -> Result<Vec<Spreader>, AllocError> {
-    let mut spreaders = Vec::new(alloc);
-    for kind in kinds {
-        spreaders.push(match kind {
-            Kind::Fold => folding_spreader(alloc)?,
-            Kind::Range => range_spreader(alloc)?,
-        })?;
-    }
-    Ok(spreaders)
-}
-
-/// Routers and spreaders of these kinds.
-pub(crate) fn exits_of(
-    alloc: Global,
-    routing: &[Kind],
-    spreading: &[Kind],
-) -> Result<Exits, AllocError> {
-    Ok(Exits::new(spreaders(alloc, spreading)?, routers(alloc, routing)?))
-}
-
 /// Exits that fold.
 pub(crate) fn exits(alloc: Global) -> Result<Exits, AllocError> {
-    exits_of(alloc, FOLD, FOLD)
+    let mut spreaders = Vec::new(alloc);
+    spreaders.push(folding_spreader(alloc)?)?;
+    let mut routers = Vec::new(alloc);
+    routers.push(folding_router(alloc)?)?;
+    Ok(Exits::new(spreaders, routers))
 }
-
-pub(crate) const FOLD: &[Kind] = &[Kind::Fold];
 
 // ---- systems
 
@@ -313,6 +260,10 @@ TRAN LEAVES
 GHU CUST CUSTOMER(#1)
 DLET CUST
 REPLY 'GONE' STATUS
+TRAN NEXT
+GHNP CUST AUDIT
+GU ACCTS KEY(STATUS)
+REPLY STATUS
 ",
 };
 
@@ -330,6 +281,13 @@ pub(crate) fn defs_of(alloc: Global, text: &str) -> Result<Defs, Fail>
 {
     let exits = exits(alloc)?;
     Ok(read_defs(alloc, text.as_bytes(), &exits)?)
+}
+
+/// The definitions of the sample.
+pub(crate) fn sample(alloc: Global) -> Result<Defs, Fail>
+    ensures { IfOk result AreDefs }
+{
+    defs_of(alloc, SAMPLE.definitions)
 }
 
 // Scripts that were read under definitions.

@@ -1,7 +1,8 @@
-//! What edits leave.
+//! What edits leave, and where sequential dependents stand.
 
 use crate::trees::{
-    A1, A1_D1, A1_L1, A1_L1_Y1, A1_L1_Y1_N1, A1_L2, A2, A2_AUDIT_7, A3, Call, Steps, all_answer,
+    A1, A1_AUDIT_4, A1_AUDIT_9, A1_D1, A1_L1, A1_L1_Y1, A1_L1_Y1_N1, A1_L2, A2, A2_AUDIT_7, A3,
+    Call, Steps, all_answer,
 };
 use std::test::Fail;
 
@@ -43,10 +44,27 @@ const ROOTS: &[Call] = &[
     Call::Delete(&[], false),
 ];
 
-static RUNS: [(&str, &[Call]); 3] = [
+const A1_AUDIT_5: Steps = &[(0, b"A1", 0), (1, b"", 5)];
+
+/// Dependents stand newest first and in front of other children, below their root alone; a position need not stand.
+const DEPENDENTS: &[Call] = &[
+    Call::Find(Some(A1), None, &[], Some(A1_AUDIT_9)),
+    Call::Find(Some(A1_AUDIT_9), None, &[], Some(A1_AUDIT_4)),
+    Call::Find(Some(A1_AUDIT_5), None, &[], Some(A1_AUDIT_4)),
+    Call::Find(Some(A1_AUDIT_4), None, &[], Some(A1_L1)),
+    Call::Find(None, Some(A1), &[], Some(A1_AUDIT_9)),
+    Call::Find(None, Some(A1_AUDIT_9), &[], None),
+    Call::Find(None, None, &[(1, None)], Some(A1_AUDIT_9)),
+    Call::Find(Some(A1_AUDIT_4), Some(A1), &[(1, None)], None),
+    Call::Find(Some(A1_AUDIT_4), None, &[(1, None)], Some(A2_AUDIT_7)),
+    Call::Find(None, None, &[(3, Some(b"D1")), (2, None)], None),
+];
+
+static RUNS: [(&str, &[Call]); 4] = [
     ("a delete takes all below", DELETED),
     ("a replace leaves what is below", REPLACED),
     ("roots come and go", ROOTS),
+    ("dependents stand newest first", DEPENDENTS),
 ];
 
 #[test]

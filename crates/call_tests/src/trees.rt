@@ -280,17 +280,17 @@ pub const A1_L1_Y1: Steps = &[(0, b"A1", 0), (2, b"L1", 0), (5, b"Y1", 0)];
 
 pub const A1_L1_Y1_N1: Steps = &[(0, b"A1", 0), (2, b"L1", 0), (5, b"Y1", 0), (6, b"N1", 0)];
 
-pub const A1_L1_Y1_N2: Steps = &[(0, b"A1", 0), (2, b"L1", 0), (5, b"Y1", 0), (6, b"N2", 0)];
+const A1_L1_Y1_N2: Steps = &[(0, b"A1", 0), (2, b"L1", 0), (5, b"Y1", 0), (6, b"N2", 0)];
 
 pub const A1_L2: Steps = &[(0, b"A1", 0), (2, b"L2", 0)];
 
-pub const A1_L3: Steps = &[(0, b"A1", 0), (2, b"L3", 0)];
+const A1_L3: Steps = &[(0, b"A1", 0), (2, b"L3", 0)];
 
 pub const A1_D1: Steps = &[(0, b"A1", 0), (3, b"D1", 0)];
 
-pub const A1_P1: Steps = &[(0, b"A1", 0), (4, b"P1", 0)];
+const A1_P1: Steps = &[(0, b"A1", 0), (4, b"P1", 0)];
 
-pub const A1_P2: Steps = &[(0, b"A1", 0), (4, b"P2", 0)];
+const A1_P2: Steps = &[(0, b"A1", 0), (4, b"P2", 0)];
 
 pub const A2: Steps = &[(0, b"A2", 0)];
 
@@ -298,11 +298,11 @@ pub const A2_AUDIT_7: Steps = &[(0, b"A2", 0), (1, b"", 7)];
 
 pub const A3: Steps = &[(0, b"A3", 0)];
 
-pub const A3_D9: Steps = &[(0, b"A3", 0), (3, b"D9", 0)];
+const A3_D9: Steps = &[(0, b"A3", 0), (3, b"D9", 0)];
 
 /// Three roots, one with descendants on four levels. Each row has new ones in front, between and behind, and one that
 /// stands already.
-pub static MADE: [Call; 20] = [
+static MADE: [Call; 20] = [
     Call::Insert(A2, true),
     Call::Insert(A1, true),
     Call::Insert(A3, true),

@@ -191,9 +191,3 @@ fn keys_and_transactions_have_the_places_of_the_kinds(rt: HostRuntime) -> Result
     assert!(rt; of.is_empty(), "{of} {wrong:?}");
     Ok(())
 }
-
-#[test]
-fn no_exits_have_no_kind(rt: HostRuntime) {
-    let none = Exits::new(Vec::new(rt.alloc()), Vec::new(rt.alloc()));
-    assert!(rt; none.spreader(Kind::Fold).is_none() && none.router(Kind::Range).is_none());
-}

@@ -1,13 +1,10 @@
-//! Tests of the low crates: lists, numbers, exits, queues, last numbers, sites, sources, the files of a folder, lines,
-//! locks, field search arguments, entries.
+//! Tests of the low crates: lists, loads, exits, queues, last numbers, locks, sources, sites, the files of a folder.
 //!
 //! They stand here and not in the crates that they test, since a crate with tests is proved twice. Each file tests one
-//! crate. What is a set of cases, text in and value out, is data of a program above and not here: of those calls only a
-//! happy path is left.
+//! crate. What is a set of cases, text in and value out, as numbers, lines, field search arguments and entries, is data
+//! of a program above and not here.
 #![tactic(auto)]
 
-#[cfg(test)]
-mod arguments;
 #[cfg(test)]
 mod exits;
 #[cfg(test)]
@@ -15,17 +12,11 @@ mod files;
 #[cfg(test)]
 mod last_numbers;
 #[cfg(test)]
-mod lines;
-#[cfg(test)]
 mod lists;
 #[cfg(test)]
 mod loads;
 #[cfg(test)]
 mod locks;
-#[cfg(test)]
-mod log_bytes;
-#[cfg(test)]
-mod numbers;
 #[cfg(test)]
 mod queues;
 #[cfg(test)]

@@ -215,21 +215,3 @@ fn terminals_and_their_messages(rt: HostRuntime) {
         assert!(rt; wrong.is_none(), "{name}: at {wrong:?}");
     }
 }
-
-/// Whether sixteen queues are empty, and a terminal may wait.
-fn begin_empty(queues: &mut Queues) -> bool
-    requires { length queues.old.queues ≡ 16 }
-{
-    queues.is_empty()
-        && queues.oldest(16).is_none()
-        && has_text(queues.take(16).as_ref(), None)
-        && queues.mark(&terminal(1)).is_ok()
-        && queues.busy(&terminal(1))
-}
-
-#[test]
-fn sixteen_groups_begin_empty(rt: HostRuntime) -> Result<(), AllocError> {
-    let mut queues = Queues::new(rt.alloc(), 16)?;
-    assert!(rt; begin_empty(&mut queues));
-    Ok(())
-}
