@@ -59,18 +59,18 @@ fn judge_all(rt: &HostRuntime, text: &str, images: u64, exits: &Exits) -> io::Re
         };
         seeds = seeds.saturating_add(1);
         events = events.saturating_add(seed.events());
-        if let Some(found) = first_difference(alloc, &seed, exits, images)? {
+        if let Some((run, found)) = first_difference(alloc, &seed, exits, images)? {
             differ = differ.saturating_add(1);
-            tell(rt, number, &found)?;
+            tell(rt, number, run, found)?;
         }
     }
     println!(rt; "{seeds} seeds, {events} events, {differ} differ")
 }
 
 // Says where a seed differs.
-fn tell(rt: &HostRuntime, number: &str, found: &Difference) -> io::Result<()> {
-    let Difference { run, call, what } = found;
-    match call {
+fn tell(rt: &HostRuntime, number: &str, run: usize, found: Difference) -> io::Result<()> {
+    let what = found.what;
+    match found.call {
         Some(call) => println!(rt; "seed {number}, run {run}, stopped at call {call}: {what}"),
         None => println!(rt; "seed {number}, run {run}: {what}"),
     }
