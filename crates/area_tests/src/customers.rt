@@ -1,7 +1,7 @@
 //! Roots of customers, as anchors keep them.
 ghost use Rattle.std.specs.Prelude.{◌≡◌, List as ListOf, true, IfOk};
 ghost use Rattle.fp_model.specs.declared.definitions.SegDef.{SegDef as SegDefOf};
-ghost use Rattle.area_tests.specs.Types.{AreCustomerTypes};
+ghost use Rattle.area_runs.specs.Types.{AreCustomerTypes};
 ghost use Rattle.root_anchor.specs.Stored.{is_newest, is_storable, are_storable};
 ghost use Rattle.root_anchor.specs.inside.Stored.{row_has_form};
 

@@ -34,7 +34,7 @@ fn exits(alloc: Global) -> Result<Exits, AllocError> {
 }
 
 /// The definitions of a text.
-pub fn definitions(alloc: Global, text: &str) -> Result<Defs, Fail>
+pub(crate) fn definitions(alloc: Global, text: &str) -> Result<Defs, Fail>
     ensures { IfOk result AreDefs }
 {
     let exits = exits(alloc)?;

@@ -1,9 +1,15 @@
 //! The states of an area: changed anchors and notes are put into it, a Purge moves its begin, and what it stands for is
 //! read back; and what comes of it where it can't be read any more.
-ghost use Rattle.area_tests.specs.Bank.{IsLonePlace};
-ghost use Rattle.std.specs.Prelude.{◌≡◌, IfOk};
+ghost use Rattle.area_runs.specs.Bank.{HasCustomers, IsNote};
+ghost use Rattle.area_runs.specs.Types.{AreCustomerTypes};
+ghost use Rattle.area_states.specs.Changes.{kept_root};
+ghost use Rattle.area_tests.specs.Lone.{IsLonePlace};
+ghost use Rattle.fp_model.specs.declared.definitions.SegDef.{SegDef as SegDefOf};
+ghost use Rattle.root_anchor.specs.Stored.{are_storable, is_storable};
+ghost use Rattle.std.specs.List.{AllByRecursion};
+ghost use Rattle.std.specs.Prelude.{◌≡◌, IfOk, List as ListOf, length, map, true};
 
-use crate::changes::{KEY, are_notes, customer, have_customers, padded};
+use crate::customers::customer_of;
 use crate::memory::{MemoryArea, formatted, shape};
 use crate::types::customer_types;
 use area_states::{Place, append_all, store_all};
@@ -122,7 +128,9 @@ static A_YEAR: [Step; 36] = [
 ];
 
 /// A note: a letter eight times.
-fn note(alloc: Global, letter: u8) -> Result<Bytes, AllocError> {
+fn note(alloc: Global, letter: u8) -> Result<Bytes, AllocError>
+    ensures { IfOk result (λ bytes. length bytes ≡ 8) }
+{
     Bytes::from_slice(alloc, &[letter; 8])
 }
 
@@ -138,23 +146,44 @@ fn items_of(alloc: Global, rows: &[(u64, u8)]) -> Result<List<SeqItem>, AllocErr
     Ok(items)
 }
 
+/// The segment of a customer.
+fn segment_of(key: u8, name: u8) -> [u8; 16] {
+    let mut text = [b' '; 16];
+    text[0] = key;
+    text[4] = name;
+    text
+}
+
 /// The root of a customer. Its list has its newest serial alone.
-fn root_of(alloc: Global, (key, name, newest): Customer) -> Result<Root, AllocError> {
-    let mut root = customer(alloc, &[key], &[name])?;
-    if newest != 0 {
-        root.seqs = items_of(alloc, &[(newest, b'?')])?;
-    }
+#[tactic(auto, using(crate::proofs::Slots::kept_storable))]
+fn root_of(alloc: Global, one: Customer) -> Result<Root, AllocError>
+    ensures { (types : ListOf SegDefOf) → AreCustomerTypes types
+        → IfOk result (λ root. is_storable types (kept_root root) ≡ true) }
+{
+    let (key, name, newest) = one;
+    let root = customer_of(alloc, &segment_of(key, name), newest, &[])?;
     Ok(root)
 }
 
+/// The roots of customers.
+fn roots_of(alloc: Global, customers: &[Customer]) -> Result<List<Root>, AllocError>
+    ensures { (types : ListOf SegDefOf) → AreCustomerTypes types
+        → IfOk result (λ roots. are_storable types (map kept_root roots) ≡ true) }
+{
+    let mut roots = List::new(alloc);
+    for one in customers {
+        roots.push(root_of(alloc, *one)?)?;
+    }
+    Ok(roots)
+}
+
 /// Anchors of the database with other customers.
-fn changes_of(alloc: Global, rows: &[Changed]) -> Result<List<AnchorChange>, AllocError> {
+fn changes_of(alloc: Global, rows: &[Changed]) -> Result<List<AnchorChange>, AllocError>
+    ensures { IfOk result (AllByRecursion HasCustomers) }
+{
     let mut changes = List::new(alloc);
     for (anchor, customers) in rows {
-        let mut roots = List::new(alloc);
-        for one in *customers {
-            roots.push(root_of(alloc, *one)?)?;
-        }
+        let roots = roots_of(alloc, customers)?;
         changes.push(AnchorChange {
             dedb: DEDB,
             anchor: *anchor,
@@ -165,21 +194,23 @@ fn changes_of(alloc: Global, rows: &[Changed]) -> Result<List<AnchorChange>, All
 }
 
 /// Notes of customers.
-fn inserts_of(alloc: Global, rows: &[Note]) -> Result<List<SeqInsert>, AllocError> {
+fn inserts_of(alloc: Global, rows: &[Note]) -> Result<List<SeqInsert>, AllocError>
+    ensures { IfOk result (AllByRecursion IsNote) }
+{
     let mut inserts = List::new(alloc);
     for (anchor, key, letter) in rows {
         inserts.push(SeqInsert {
             dedb: DEDB,
             anchor: *anchor,
-            key: padded(alloc, &[*key], KEY)?,
+            key: Bytes::from_slice(alloc, &[*key, b' ', b' ', b' '])?,
             bytes: note(alloc, *letter)?,
         })?;
     }
     Ok(inserts)
 }
 
-/// Stores anchors. No answer of the area's where the roots are no customers.
-#[tactic(auto, using(crate::proofs::BankLemmas::lone_storable))]
+/// Stores anchors.
+#[tactic(auto, using(crate::proofs::Slots::lone_storable))]
 fn store(
     alloc: Global,
     area: &mut MemoryArea,
@@ -189,14 +220,11 @@ fn store(
     requires { IsLonePlace place.now }
 {
     let changes = changes_of(alloc, rows)?;
-    if !have_customers(changes.as_slice()) {
-        return Ok(Err(AnchorFault::Memory));
-    }
     Ok(store_all(alloc, area, place, changes.as_slice()))
 }
 
 /// Puts notes.
-#[tactic(auto, using(crate::proofs::BankLemmas::lone_insertable))]
+#[tactic(auto, using(crate::proofs::Slots::lone_insertable))]
 fn append(
     alloc: Global,
     area: &mut MemoryArea,
@@ -206,9 +234,6 @@ fn append(
     requires { IsLonePlace place.now }
 {
     let inserts = inserts_of(alloc, rows)?;
-    if !are_notes(inserts.as_slice()) {
-        return Ok(Err(SeqFault::Memory));
-    }
     Ok(append_all(alloc, area, place, inserts.as_slice()))
 }
 
@@ -256,8 +281,8 @@ fn counts(alloc: Global, area: &mut MemoryArea, place: &Place, anchor: u32, coun
     }
 }
 
-/// Whether the root of a number has the bytes of this one, and this newest serial.
-fn has_root(roots: &List<Root>, number: usize, wanted: &Root, newest: u64) -> bool {
+/// Whether the root of a number has these bytes, and this newest serial.
+fn has_root(roots: &List<Root>, number: usize, wanted: &[u8], newest: u64) -> bool {
     let Some(root) = roots.as_slice().get(number) else {
         return false;
     };
@@ -265,7 +290,7 @@ fn has_root(roots: &List<Root>, number: usize, wanted: &Root, newest: u64) -> bo
         Some(item) => item.serial,
         None => 0,
     };
-    root.bytes == wanted.bytes && serial == newest
+    root.bytes.as_slice() == wanted && serial == newest
 }
 
 /// Whether a customer stands at an anchor with this number, these bytes and this newest serial.
@@ -275,15 +300,14 @@ fn stands(
     place: &Place,
     at: (u32, usize),
     one: Customer,
-) -> Result<bool, AllocError>
+) -> bool
     requires { IsLonePlace place.now }
 {
     let (key, name, newest) = one;
-    let wanted = customer(alloc, &[key], &[name])?;
-    Ok(match roots_at(alloc, area, place, at.0) {
-        Some(roots) => has_root(&roots, at.1, &wanted, newest),
+    match roots_at(alloc, area, place, at.0) {
+        Some(roots) => has_root(&roots, at.1, &segment_of(key, name), newest),
         None => false,
-    })
+    }
 }
 
 /// Whether the notes from a serial down are these.
@@ -320,7 +344,7 @@ fn comes(
         Ends(begin, end) => Ok(has_ends(area, place, *begin, *end)),
         Count(anchor, count) => Ok(counts(alloc, area, place, *anchor, *count)),
         Has(anchor, number, one, notes) => Ok(
-            stands(alloc, area, place, (*anchor, *number), *one)?
+            stands(alloc, area, place, (*anchor, *number), *one)
                 && has_notes(alloc, area, place, one.2, notes)?,
         ),
     }

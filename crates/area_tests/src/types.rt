@@ -1,6 +1,7 @@
 //! Segment types, and what an anchor of such types has.
 ghost use Rattle.std.specs.Prelude.{◌≡◌, ◌<◌, IfOk};
-ghost use Rattle.area_tests.specs.Types.{AreCustomerTypes, AreFamilyTypes};
+ghost use Rattle.area_runs.specs.Types.{AreCustomerTypes};
+ghost use Rattle.area_tests.specs.Types.{AreFamilyTypes};
 ghost use Rattle.anchor_elements.specs.Elements.{AreTypes};
 ghost use Rattle.root_anchor.specs.Chains.{anchor_count};
 

@@ -1,7 +1,11 @@
-//! Tests over sites in memory: logs, restarts, checkpoints, the turns of the core and whole commands, also with each
-//! call failing and stopped at each call.
+//! Tests over sites in memory: logs, restarts, checkpoints, areas, the turns of the core and whole commands, also with
+//! each call failing and stopped at each call.
 #![tactic(auto)]
 
+#[cfg(test)]
+mod area_commits;
+#[cfg(test)]
+mod area_stops;
 #[cfg(test)]
 mod checkpoint_commits;
 #[cfg(test)]
@@ -18,6 +22,8 @@ mod formats;
 mod groups;
 #[cfg(test)]
 mod logs;
+#[cfg(test)]
+mod pool_faults;
 #[cfg(test)]
 mod restarts;
 #[cfg(test)]

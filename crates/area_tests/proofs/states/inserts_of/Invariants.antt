@@ -1,0 +1,6 @@
+use Rattle.std.specs.List.{AllByRecursion}
+use Rattle.area_runs.specs.Bank.{IsNote}
+use Rattle.area_tests.proofs.states.inserts_of.Given as goal
+
+abbrev pub invariant-loop-anchor : goal.invariant-loop-anchor
+invariant-loop-anchor l = AllByRecursion IsNote l.inserts

@@ -1,5 +1,0 @@
-use Rattle.area_tests.specs.Bank.{HasBank}
-use Rattle.area_tests.proofs.stops.each_again.Given as goal
-
-abbrev pub invariant-loop-place : goal.invariant-loop-place
-invariant-loop-place l = HasBank l.bench.defs l.bench.areas.places

@@ -1,0 +1,5 @@
+use Rattle.area_runs.specs.Bank.{HasBank}
+use Rattle.fp_stops.proofs.area_stops.each_again.Given as goal
+
+abbrev pub invariant-loop-place : goal.invariant-loop-place
+invariant-loop-place g l = HasBank l.bench.defs l.bench.areas.places
