@@ -5,7 +5,7 @@ use crate::name::Name;
 use fp_lists::{Bytes, List};
 
 /// A value in a statement.
-#[derive(PartialEq, Eq, Drop)]
+#[derive(Drop)]
 pub enum Operand {
     /// A text as it stands, or a number in canonical decimal.
     Text(Bytes),
@@ -41,7 +41,7 @@ pub enum Comparison {
 }
 
 /// A segment search argument, its key still to be worked out.
-#[derive(PartialEq, Eq, Drop)]
+#[derive(Drop)]
 pub struct SsaText {
     /// The number of the segment type in its database; 0 in a main storage database.
     pub segment: u8,
@@ -49,7 +49,7 @@ pub struct SsaText {
 }
 
 /// A field search argument, its operand still to be worked out.
-#[derive(PartialEq, Eq, Drop)]
+#[derive(Drop)]
 pub struct FsaText {
     pub field: Name,
     /// The letter of a verify (E, G, H, L, M, N or another), or `+`, `-`, `=`.
@@ -58,14 +58,14 @@ pub struct FsaText {
 }
 
 /// A field and its value, still to be worked out.
-#[derive(PartialEq, Eq, Drop)]
+#[derive(Drop)]
 pub struct FieldText {
     pub field: Name,
     pub value: Operand,
 }
 
 /// A statement, with those in its blocks.
-#[derive(PartialEq, Eq, Drop)]
+#[derive(Drop)]
 pub enum Statement {
     /// `SET v a`, or `SET v a op b`.
     Set {
@@ -123,7 +123,7 @@ pub enum Statement {
 }
 
 /// A transaction's script.
-#[derive(PartialEq, Eq, Drop)]
+#[derive(Drop)]
 pub struct Script {
     pub name: Name,
     pub statements: List<Statement>,
