@@ -1,7 +1,7 @@
 //! A run: a new site, a step for each event of a schedule, the drain, and what is found then.
 ghost use Rattle.fp_core.specs.Draining.{IsReachedBy};
 ghost use Rattle.fp_core.specs.Relation.{IsSetup};
-ghost use Rattle.fp_core.specs.Standing.{IsEventOf};
+ghost use Rattle.fp_model.specs.Events.{IsEventOf};
 ghost use Rattle.fp_exits.specs.Kinds.{has_kind, kinds_of};
 ghost use Rattle.fp_model.specs.LogText.{FitsFront};
 ghost use Rattle.fp_model.specs.Machine.{Machine};

@@ -1,6 +1,5 @@
 -- The engine beside a site and a source: what the log holds and what was sent, at each moment of a step.
 use Rattle.std.specs.Prelude.{◌≡◌, ⊤, ℕ, ◌+◌, ◌-◌, ◌≤◌, List, ◌++◌, length, Option, None, Some}
-use Rattle.fp_model.specs.declared.definitions.Defs.{Defs}
 use Rattle.fp_model.specs.declared.events.Event.{Event}
 use Rattle.fp_model.specs.declared.events.Event.TheVariants as event
 use Rattle.fp_model.specs.declared.log.Entry.{Entry}
@@ -99,12 +98,6 @@ module _ (origin : Origin) (rules : Rules) (m : Machine) (most : ℕ) where
     pub within : IsWithin old new
 
 -- ---- a step
-
--- an event that schedules over these definitions have; without areas there is no PURGE
-abbrev pub IsEventOf : Defs → Event → Type 0
-IsEventOf defs (event.Region region) = (1 ≤ region) × (region ≤ length defs.regions)
-IsEventOf defs (event.Purge set n) = ⊥
-IsEventOf defs _ = ⊤
 
 -- A turn leads from this machine, whose lines are those that may still be read, to one that the engine stands for.
 pub record Stepped (event : Event) (m : Machine) (old_lines new_lines : Lines) (engine : Engine) (did : Did)

@@ -2,7 +2,8 @@
 ghost use Rattle.fp_core.specs.Fronts.{HoldsFronts, KeepsFronts};
 ghost use Rattle.fp_core.specs.Relation.{IsSetup, StandsFor, rules_in};
 ghost use Rattle.fp_core.specs.Sparing.{IsLogSet, IsSealing, Spares};
-ghost use Rattle.fp_core.specs.Standing.{IsCausedBySite, IsCausedBySource, IsEventOf, IsUnbegun, Leaves, MayStop, Origin, StandsAt, StandsBeside, Stepped, SteppedBeside, number_of, seals_of};
+ghost use Rattle.fp_core.specs.Standing.{IsCausedBySite, IsCausedBySource, IsUnbegun, Leaves, MayStop, Origin, StandsAt, StandsBeside, Stepped, SteppedBeside, number_of, seals_of};
+ghost use Rattle.fp_model.specs.Events.{IsEventOf};
 ghost use Rattle.fp_lists.specs.Continued.{IsContinued};
 ghost use Rattle.fp_exits.specs.Kinds.{has_kind, kinds_of};
 ghost use Rattle.fp_model.specs.History.{History, place_of};

@@ -32,6 +32,7 @@ pub mod SerialHistory
 pub mod Waiting
 pub mod Machine
 pub mod Turns
+pub mod Events
 pub mod Runs
 pub mod Frames
 pub mod Product

@@ -1,6 +1,7 @@
 //! What the commands do on the site, once the parts are read.
 ghost use Rattle.fp_core.specs.Fronts.{KeepsFronts};
-ghost use Rattle.fp_core.specs.Standing.{IsEventOf, Origin};
+ghost use Rattle.fp_core.specs.Standing.{Origin};
+ghost use Rattle.fp_model.specs.Events.{IsEventOf};
 ghost use Rattle.fp_lists.specs.Continued.{IsContinued};
 ghost use Rattle.fp_exits.specs.Kinds.{has_kind, kinds_of};
 ghost use Rattle.fp_model.specs.History.{History};

@@ -1,5 +1,5 @@
 //! What a command does with the parts of the source and the site.
-ghost use Rattle.fp_core.specs.Standing.{IsEventOf};
+ghost use Rattle.fp_model.specs.Events.{IsEventOf};
 ghost use Rattle.fp_exits.specs.Kinds.{has_kind, kinds_of};
 ghost use Rattle.fp_exits.specs.Kinds.{Kinds};
 ghost use Rattle.fp_lists.specs.Continued.{IsContinued};

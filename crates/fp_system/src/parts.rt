@@ -1,5 +1,5 @@
 //! The parts of the source: the definitions, then the scripts, and of a run then the schedule.
-ghost use Rattle.fp_core.specs.Standing.{IsEventOf};
+ghost use Rattle.fp_model.specs.Events.{IsEventOf};
 ghost use Rattle.fp_exits.specs.Kinds.{has_kind, kinds_of};
 ghost use Rattle.fp_lists.specs.Continued.{IsContinued};
 ghost use Rattle.fp_model.specs.WellFormed.{AreDefs};

@@ -8,7 +8,7 @@ use Rattle.fp_model.specs.Machine.{at_rest}
 use Rattle.fp_model.specs.Messages.{lines_of}
 use Rattle.fp_source.specs.declared.part.Part.TheVariants as part
 use Rattle.std.specs.List.{AllByRecursion}
-use Rattle.fp_core.specs.Standing.{IsEventOf}
+use Rattle.fp_model.specs.Events.{IsEventOf}
 use Rattle.fp_model.specs.declared.definitions.Defs.{Defs}
 use Rattle.fp_model.specs.declared.events.Event.{Event}
 use Rattle.fp_model.specs.Rules.{Rules}

@@ -7,7 +7,8 @@ use Rattle.fp_core.specs.declared.did.Did.TheVariants as did
 use Rattle.fp_core.specs.declared.engine.Region.TheVariants as regions
 use Rattle.fp_core.specs.Relation.{rules_in}
 use Rattle.fp_core.specs.Sparing.{IsLogSet}
-use Rattle.fp_core.specs.Standing.{IsEventOf, IsUnbegun, Stepped, SteppedBeside, seals_of}
+use Rattle.fp_core.specs.Standing.{IsUnbegun, Stepped, SteppedBeside, seals_of}
+use Rattle.fp_model.specs.Events.{IsEventOf}
 use Rattle.fp_core.specs.inside.Standing.{SteppedAt, SteppedBy}
 use Rattle.fp_core.specs.Turning.{Turned}
 use Rattle.fp_core.proofs.Rounds.{on_err_sure}
