@@ -310,7 +310,9 @@ impl Log {
     /// changes then.
     pub fn reserve(&mut self, bytes: u64) -> Result<(), AllocError>
         ensures ok { OnOk result (bytes ≤ self.new.spare) }
+        ensures just { self.old.spare ≤ bytes → OnOk result (self.new.spare ≤ bytes) }
         ensures sure { bytes ≤ self.old.spare → IsOk result }
+        ensures kept { bytes ≤ self.old.spare → self.new ≡ self.old }
         ensures err { OnErr result (self.new ≡ self.old) }
         ensures spare { self.old.spare ≤ self.new.spare }
         ensures bounded { self.new.spare < 2 ^ 64 }
@@ -353,6 +355,7 @@ impl Log {
         // What stays. A refusal changes nothing.
         ensures err { OnErr result (self.new ≡ self.old) }
         ensures spare { self.old.spare ≤ self.new.spare + length (entry_text e.now) }
+        ensures most { OnOk result (self.new.spare ≤ self.old.spare - length (entry_text e.now)) }
         ensures bounded { self.new.spare < 2 ^ 64 }
         ensures front_format { self.new.front_format ≡ self.old.front_format }
         ensures sealed { self.new.sealed ≡ self.old.sealed }
@@ -386,6 +389,7 @@ impl Log {
         ensures front_format { self.new.front_format ≡ self.old.front_format }
         ensures format { self.new.format ≡ self.old.format }
         ensures spare { self.old.spare ≤ self.new.spare }
+        ensures most { self.new.spare ≤ self.old.spare }
         ensures bounded { self.new.spare < 2 ^ 64 }
 
         // Where no entry is unsealed nothing changes.

@@ -28,6 +28,8 @@ pub fn append_beside(log: &mut Log, entry: &Entry, room: u64) -> Result<(), Allo
     requires fits { FitsEntry entry.now }
     ensures unsealed { OnOk result (log.new.unsealed ≡ log.old.unsealed ++ entry.now ∷ []) }
     ensures room { OnOk result (room ≤ log.new.spare) }
+    ensures just { log.old.spare ≤ room → OnOk result (log.new.spare ≤ room) }
+    ensures most { room ≤ log.old.spare → OnOk result (log.new.spare ≤ log.old.spare) }
     ensures sure { length (entry_text entry.now) + room ≤ log.old.spare → IsOk result }
 
     // What stays.
@@ -35,6 +37,7 @@ pub fn append_beside(log: &mut Log, entry: &Entry, room: u64) -> Result<(), Allo
     ensures gate { log.new.gate ≡ log.old.gate }
     ensures waiting { OnErr result (log.new.unsealed ≡ log.old.unsealed) }
     ensures spare { OnErr result (log.old.spare ≤ log.new.spare) }
+    ensures freed { OnErr result (log.new.spare ≤ log.old.spare) }
 {
     let bytes = entry_length(entry);
     let _free = log.spare(); // so its range is known

@@ -135,6 +135,7 @@ fn publish(
         → AllByRecursion (λ msdb. length msdb.segments < 2 ^ 32) msdbs.new.msdbs }
     ensures unsealed { OnOk result (log.new.unsealed ≡ log.old.unsealed ++ entry.now ∷ []) }
     ensures spare { log.old.spare ≤ log.new.spare }
+    ensures most { log.new.spare ≤ log.old.spare }
     ensures sealed { log.new.sealed ≡ log.old.sealed }
     ensures gate { log.new.gate ≡ log.old.gate }
 
@@ -163,6 +164,7 @@ fn publish_over(msdbs: &mut MsdbStore, log: &mut Log, entry: &Entry) -> Result<(
         → AllByRecursion (λ msdb. length msdb.segments < 2 ^ 32) msdbs.new.msdbs }
     ensures unsealed { OnOk result (log.new.unsealed ≡ log.old.unsealed ++ entry.now ∷ []) }
     ensures spare { log.old.spare ≤ log.new.spare }
+    ensures most { log.new.spare ≤ log.old.spare }
     ensures sealed { log.new.sealed ≡ log.old.sealed }
     ensures gate { log.new.gate ≡ log.old.gate }
 
@@ -197,6 +199,7 @@ fn enter(
     ensures few { AllByRecursion (λ msdb. length msdb.segments < 2 ^ 32) msdbs.old.msdbs
         → AllByRecursion (λ msdb. length msdb.segments < 2 ^ 32) msdbs.new.msdbs }
     ensures spare { log.old.spare ≤ log.new.spare }
+    ensures most { log.new.spare ≤ log.old.spare }
     ensures sealed { log.new.sealed ≡ log.old.sealed }
     ensures gate { log.new.gate ≡ log.old.gate }
 
@@ -254,6 +257,7 @@ pub fn commit(draft: Draft, msdbs: &mut MsdbStore, log: &mut Log) -> Result<Entr
     ensures few { AllByRecursion (λ msdb. length msdb.segments < 2 ^ 32) msdbs.old.msdbs
         → AllByRecursion (λ msdb. length msdb.segments < 2 ^ 32) msdbs.new.msdbs }
     ensures spare { log.old.spare ≤ log.new.spare }
+    ensures most { log.new.spare ≤ log.old.spare }
     ensures sealed { log.new.sealed ≡ log.old.sealed }
     ensures gate { log.new.gate ≡ log.old.gate }
 {
