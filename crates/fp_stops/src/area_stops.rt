@@ -210,47 +210,40 @@ fn run_over(alloc: Global, exits: &Exits, site: MemorySite, alone: bool) -> Resu
     }
 }
 
-/// How a run ends over a site that fails from this call on.
-fn stopped(alloc: Global, exits: &Exits, call: u64) -> Result<Run, Fail> {
-    let site = MemorySite::stopping(alloc, call)?;
-    run_over(alloc, exits, site, false)
-}
-
-/// How a run ends over a site that fails at this call.
-fn with_a_fault(alloc: Global, exits: &Exits, call: u64) -> Result<Run, Fail> {
-    let site = MemorySite::new(alloc, &[call])?;
-    run_over(alloc, exits, site, true)
+/// How a run ends over a site that fails at this call alone, or from it on.
+fn with_a_fault(alloc: Global, exits: &Exits, call: u64, alone: bool) -> Result<Run, Fail> {
+    let site = if alone {
+        MemorySite::new(alloc, &[call])?
+    } else {
+        MemorySite::stopping(alloc, call)?
+    };
+    run_over(alloc, exits, site, alone)
 }
 
 /// The run makes fewer calls than this.
 const MOST_CALLS: u64 = 200;
 
-#[test]
-fn a_restart_behind_each_stop_has_the_sealed_entries(rt: HostRuntime) -> Result<(), Fail> {
-    let exits = exits(rt.alloc())?;
+/// The first call with whose fault a run ends otherwise than wanted, and the step that it ends with; none where each
+/// ends well, up to one in which no call fails.
+fn first_wrong(alloc: Global, exits: &Exits, alone: bool) -> Result<Option<(u64, usize)>, Fail> {
     for call in 0..MOST_CALLS {
-        match stopped(rt.alloc(), &exits, call)? {
+        match with_a_fault(alloc, exits, call, alone)? {
             Run::Unformatted => {}
-            Run::Otherwise(step) => assert!(rt; false, "call {call}, step {step}"),
-            Run::Well(0) => return Ok(()),
+            Run::Otherwise(step) => return Ok(Some((call, step))),
+            Run::Well(0) => return Ok(None),
             Run::Well(_) => {}
         }
     }
-    assert!(rt; false, "the run makes more calls");
-    Ok(())
+    Ok(Some((MOST_CALLS, 0)))
 }
 
 #[test]
-fn each_call_may_fail_alone(rt: HostRuntime) -> Result<(), Fail> {
+fn each_call_may_fail_alone_or_as_the_first(rt: HostRuntime) -> Result<(), Fail> {
     let exits = exits(rt.alloc())?;
-    for call in 0..MOST_CALLS {
-        match with_a_fault(rt.alloc(), &exits, call)? {
-            Run::Unformatted => {}
-            Run::Otherwise(step) => assert!(rt; false, "call {call}, step {step}"),
-            Run::Well(0) => return Ok(()),
-            Run::Well(_) => {}
+    for alone in [false, true] {
+        if let Some((call, step)) = first_wrong(rt.alloc(), &exits, alone)? {
+            assert!(rt; false, "call {call}, alone {alone}: step {step}");
         }
     }
-    assert!(rt; false, "the run makes more calls");
     Ok(())
 }
