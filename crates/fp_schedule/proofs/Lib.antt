@@ -1,3 +1,4 @@
 pub mod AreaLemmas
+pub mod EventLemmas
 pub mod FaultLemmas
 pub mod TokenLemmas

@@ -1,5 +1,7 @@
 //! Reads a whole schedule.
-ghost use Rattle.std.specs.Prelude.{◌≡◌, ◌≢◌, Ok, Err, IfErr, IfOk};
+ghost use Rattle.std.specs.List.{AllByRecursion};
+ghost use Rattle.std.specs.Prelude.{◌≡◌, ◌≢◌, [], Ok, Err, IfErr, IfOk};
+ghost use Rattle.fp_model.specs.Events.{IsEventOf};
 ghost use Rattle.fp_model.specs.WellFormed.{AreDefs};
 ghost use Rattle.fp_schedule.specs.Schedule.{events_of};
 
@@ -18,6 +20,7 @@ const MOST_TOKENS: usize = 1_000_000;
 pub fn read_events(alloc: Global, bytes: &[u8], defs: &Defs) -> Result<List<Event>, ScheduleFault>
     requires defs { AreDefs defs.now }
     ensures ok { IfOk result (λ events. events_of defs.now bytes.now ≡ Ok events) }
+    ensures events { defs.now.dedbs ≡ [] → IfOk result (AllByRecursion (IsEventOf defs.now)) }
     ensures fault { IfErr result (λ fault. fault ≢ ScheduleFault.Memory → events_of defs.now bytes.now ≡ Err fault) }
 {
     if bytes.len() > LONGEST {

@@ -13,15 +13,15 @@ use Rattle.site_audit.specs.Verdicts.{SendsVerdict, legal_text}
 use Rattle.site_audit.specs.declared.fault.AuditFault.{AuditFault}
 use Rattle.site_audit.specs.declared.fault.AuditFault.TheVariants as fault
 use Rattle.site_texts.specs.Sent.{HasSent}
-use Rattle.fp_system.specs.Answers.{MayStandIn}
+use Rattle.command_tasks.specs.Answers.{MayStandIn}
 use Rattle.fp_system.specs.inside.Answers.{status_of_audit}
-use Rattle.fp_system.specs.inside.Setups.{IsSetup, job_of}
-use Rattle.fp_system.specs.declared.parts.Setup.{Setup}
+use Rattle.command_tasks.specs.Setups.{IsSetup, job_of}
+use Rattle.command_tasks.specs.declared.parts.Setup.{Setup}
 use Rattle.fp_system.specs.Gives.{Audited}
-use Rattle.fp_system.specs.Parts.{Job}
+use Rattle.command_tasks.specs.Parts.{Job}
 use Rattle.fp_system.specs.Table.{ByEntries, illegal, legal, of_none, torn}
-use Rattle.fp_system.specs.declared.status.Status.{Status}
-use Rattle.fp_system.specs.declared.status.Status.TheVariants.{Done, Illegal}
+use Rattle.command_tasks.specs.declared.status.Status.{Status}
+use Rattle.command_tasks.specs.declared.status.Status.TheVariants.{Done, Illegal}
 use Rattle.fp_system.proofs.Restarted.{sound_for}
 
 -- ---- by what an audit came to

@@ -1,13 +1,16 @@
--- What a core begins with: a history of any log that can be read, and a machine that turns led to.
+-- What a core begins with: a setup by which it can run, a history of any log that can be read, and a machine that turns
+-- led to.
 use Rattle.std.proofs.Common.{◌≡◌, refl, sym, ap, subst, ◌∙◌, ℕ, zero, suc, List, [], ◌++◌, length}
 use Rattle.std.specs.Prelude.{replicate}
 use Rattle.std.proofs.lemmas.List.{append-nil}
+use Rattle.command_tasks.specs.Setups.{IsSetup}
+use Rattle.command_tasks.specs.declared.parts.Setup.{Setup}
 use Rattle.drain_laws.specs.Live.{IsReached}
 use Rattle.drain_laws.specs.ProductGauge.{gauge_of}
 use Rattle.drain_laws.proofs.InOrder.{rest_ordered}
 use Rattle.drain_laws.proofs.Live.{rest_live}
 use Rattle.fp_core.specs.Draining.{IsReachedBy}
-use Rattle.fp_core.specs.Relation.{StandsFor, rules_in}
+use Rattle.fp_core.specs.Relation.{IsSetup as CanRun, StandsFor, rules_in}
 use Rattle.fp_core.specs.Standing.{Origin, StandsBeside}
 use Rattle.fp_core.specs.declared.engine.Engine.{Engine}
 use Rattle.fp_model.specs.Messages.{lines_of}
@@ -25,6 +28,11 @@ use Rattle.fp_model.specs.History.{History, place_of}
 use Rattle.fp_model.specs.Machine.{Machine, at_rest}
 use Rattle.fp_model.specs.Rules.{Rules}
 use Rattle.log_groups.specs.Images.{IsAtRest}
+
+-- ---- what the core runs by
+
+pub can_run : (setup : Setup) → IsSetup setup → CanRun setup.defs setup.scripts.scripts
+can_run setup is = record { defined = is.are; no_dedbs = is.no_dedbs; fit = is.fit; cheap = is.cheap }
 
 -- ---- a history of some entries
 

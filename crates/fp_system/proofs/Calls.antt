@@ -10,22 +10,22 @@ use Rattle.fp_model.specs.declared.events.Event.{Event}
 use Rattle.fp_site.specs.Disk.{Disk, IsLawful}
 use Rattle.fp_source.specs.declared.part.Part.{Part}
 use Rattle.fp_source.specs.declared.part.Part.TheVariants as part
-use Rattle.fp_system.specs.Answers.{IsEarly, MayStandIn}
-use Rattle.fp_system.specs.Causes.{IsCaused, IsCausedBySite}
+use Rattle.command_tasks.specs.Answers.{IsEarly, IsOfParts, MayStandIn}
+use Rattle.command_tasks.specs.Causes.{IsCaused, IsCausedBySite}
 use Rattle.fp_system.specs.Courses.{Input}
 use Rattle.fp_system.specs.Gives.{Defined, InOrder, Took}
-use Rattle.fp_system.specs.Parts.{HasSchedule, IsJob, Job, Refuses, definitions_in}
+use Rattle.command_tasks.specs.Parts.{HasSchedule, IsJob, Job, Refuses, definitions_in}
 use Rattle.fp_system.specs.Table as table
 use Rattle.fp_system.specs.Table.{Asks, Given}
-use Rattle.fp_system.specs.declared.status.Status.{Status}
-use Rattle.fp_system.specs.declared.status.Status.TheVariants.{Done, NoMemory, Usage}
+use Rattle.command_tasks.specs.declared.status.Status.{Status}
+use Rattle.command_tasks.specs.declared.status.Status.TheVariants.{Done, NoMemory, Usage}
 use Rattle.fp_system.specs.inside.Acted.{Acted, Gives, IsLate, IsReadOf, Made, Served, input_of}
-use Rattle.fp_system.specs.inside.Answers.{IsOfParts, IsOfSite}
-use Rattle.fp_system.specs.inside.Setups.{HasEventsFor}
+use Rattle.fp_system.specs.inside.Answers.{IsOfSite}
+use Rattle.command_tasks.specs.Setups.{HasEventsFor}
 use Rattle.fp_system.proofs.Audits.{audited_not}
 use Rattle.fp_system.proofs.CauseLemmas.{no_read_fault}
 use Rattle.fp_system.proofs.Due.{parts_not_done}
-use Rattle.fp_system.proofs.Jobs.{no_job_refused, no_word, not_both, one_job, same_events, schedule_had}
+use Rattle.command_tasks.proofs.Jobs.{no_job_refused, no_word, not_both, one_job, same_events, schedule_had}
 use Rattle.fp_system.proofs.Migrations.{unmigrated}
 use Rattle.fp_system.proofs.Runs.{before_site, only_same, unmade, unrun}
 use Rattle.fp_system.proofs.SentTexts.{logged_not, shown_not}

@@ -1,6 +1,6 @@
--- What a fault comes of.
+-- What the answers to faults of other crates come of.
 use Rattle.std.proofs.Common.{◌≡◌, refl, ap, sym, subst, ℕ}
-use Rattle.std.specs.Prelude.{Result, Ok, Err, IfErr, IsErrOf}
+use Rattle.std.specs.Prelude.{Result, Ok, Err, IsErrOf}
 use Rattle.fp_core.specs.Standing.{IsCausedBySite as IsStopBySite, IsCausedBySource as IsStopBySource}
 use Rattle.fp_core.specs.declared.stop.Stop.{Stop}
 use Rattle.fp_core.specs.declared.stop.Stop.TheVariants as stop
@@ -9,68 +9,17 @@ use Rattle.fp_restart.specs.declared.fault.RestartFault.TheVariants as fault
 use Rattle.fp_lists.specs.Faults.{Counts, Rose}
 use Rattle.site_audit.specs.declared.fault.AuditFault.{AuditFault}
 use Rattle.site_audit.specs.declared.fault.AuditFault.TheVariants as unsound
-use Rattle.fp_system.specs.Answers.{status_of_stop}
-use Rattle.fp_system.specs.inside.Answers.{IsOfSite, answer_of, status_of_audit, status_of_fault, status_of_seal}
-use Rattle.fp_system.specs.Causes.{IsCausedBySite, IsCausedBySource}
-use Rattle.fp_system.specs.declared.status.Status.{Status}
-use Rattle.fp_system.specs.declared.status.Status.TheVariants.{Done, Usage, Definitions, Scripts, Schedule, ReadFault, SiteFault, Foreign, Damaged, Line, NoMemory, NotBuilt, OldFormat, Illegal}
-
--- ---- by the answer
-
--- of the source, where that is told of a read fault and of any other answer
-pub by_source : (before now : ℕ) (answer : Status) → (answer ≡ ReadFault → Rose before now)
-    → (¬ (answer ≡ ReadFault) → now ≡ before) → IsCausedBySource before now answer
-by_source before now ReadFault rose stayed = rose refl
-by_source before now SiteFault rose stayed = stayed (λ e. cc)
-by_source before now Done rose stayed = stayed (λ e. cc)
-by_source before now Usage rose stayed = stayed (λ e. cc)
-by_source before now (Definitions fault) rose stayed = stayed (λ e. cc)
-by_source before now (Scripts fault) rose stayed = stayed (λ e. cc)
-by_source before now (Schedule fault) rose stayed = stayed (λ e. cc)
-by_source before now Foreign rose stayed = stayed (λ e. cc)
-by_source before now (Damaged set at) rose stayed = stayed (λ e. cc)
-by_source before now (Line number) rose stayed = stayed (λ e. cc)
-by_source before now NoMemory rose stayed = stayed (λ e. cc)
-by_source before now (NotBuilt p) rose stayed = stayed (λ e. cc)
-by_source before now OldFormat rose stayed = stayed (λ e. cc)
-by_source before now (Illegal entry) rose stayed = stayed (λ e. cc)
-
--- the same of the site
-pub by_site : (before now : ℕ) (answer : Status) → (answer ≡ SiteFault → Rose before now)
-    → (¬ (answer ≡ SiteFault) → now ≡ before) → IsCausedBySite before now answer
-by_site before now SiteFault rose stayed = rose refl
-by_site before now ReadFault rose stayed = stayed (λ e. cc)
-by_site before now Done rose stayed = stayed (λ e. cc)
-by_site before now Usage rose stayed = stayed (λ e. cc)
-by_site before now (Definitions fault) rose stayed = stayed (λ e. cc)
-by_site before now (Scripts fault) rose stayed = stayed (λ e. cc)
-by_site before now (Schedule fault) rose stayed = stayed (λ e. cc)
-by_site before now Foreign rose stayed = stayed (λ e. cc)
-by_site before now (Damaged set at) rose stayed = stayed (λ e. cc)
-by_site before now (Line number) rose stayed = stayed (λ e. cc)
-by_site before now NoMemory rose stayed = stayed (λ e. cc)
-by_site before now (NotBuilt p) rose stayed = stayed (λ e. cc)
-by_site before now OldFormat rose stayed = stayed (λ e. cc)
-by_site before now (Illegal entry) rose stayed = stayed (λ e. cc)
-
--- an answer that is no read fault, where the source's count stayed
-pub calm_err : {A : Type 0} (before now : ℕ) (r : Result A Status) → (IsErrOf r ReadFault → ⊥) → now ≡ before
-    → IfErr r (IsCausedBySource before now)
-calm_err before now (Ok x) never same = tt
-calm_err before now (Err answer) never same =
-    by_source before now answer (λ e. absurd (never (ap (λ (a : Status). Err a) e))) (λ n. same)
-
--- where the count stayed before
-pub err_since : {A : Type 0} (a b c : ℕ) (r : Result A Status) → b ≡ a → IfErr r (IsCausedBySource b c)
-    → IfErr r (IsCausedBySource a c)
-err_since a b c (Ok x) same is = tt
-err_since a b c (Err answer) same is = subst (λ (n : ℕ). IsCausedBySource n c answer) same is
+use Rattle.fp_system.specs.inside.Answers.{IsOfSite, answer_of, status_of_audit, status_of_fault, status_of_seal, status_of_stop}
+use Rattle.command_tasks.proofs.CauseLemmas.{by_source}
+use Rattle.command_tasks.specs.Causes.{IsCausedBySite, IsCausedBySource}
+use Rattle.command_tasks.specs.declared.status.Status.{Status}
+use Rattle.command_tasks.specs.declared.status.Status.TheVariants.{NoMemory}
 
 -- an error is one
 pub one_err : {A E : Type 0} {a b : E} (r : Result A E) → r ≡ Err a → r ≡ Err b → a ≡ b
 one_err r e f = cc
 
--- ---- by what another crate answered
+-- ---- faults that are counted
 
 pub stop_by_source : (before now : ℕ) (why : Stop) → IsStopBySource before now why
     → IsCausedBySource before now (status_of_stop why)
@@ -152,12 +101,3 @@ audit_of_site (Err unsound.Memory) = (λ early. early, λ e. cc)
 -- No read fault is answered by them, so the source's count stays.
 pub no_read_fault : (before : ℕ) (answer : Status) → IsOfSite answer → IsCausedBySource before before answer
 no_read_fault before answer of = by_source before before answer (λ e. absurd (of.1 e)) (λ other. refl)
-
--- ---- one stretch behind another
-
--- where the count stayed before
-pub source_since : (a b c : ℕ) (answer : Status) → b ≡ a → IsCausedBySource b c answer → IsCausedBySource a c answer
-source_since a b c answer same is = subst (λ (n : ℕ). IsCausedBySource n c answer) same is
-
-pub site_since : (a b c : ℕ) (answer : Status) → b ≡ a → IsCausedBySite b c answer → IsCausedBySite a c answer
-site_since a b c answer same is = subst (λ (n : ℕ). IsCausedBySite n c answer) same is

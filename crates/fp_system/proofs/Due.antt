@@ -7,17 +7,17 @@ use Rattle.fp_restart.proofs.Replays.{readable_not_bad}
 use Rattle.fp_restart.specs.declared.fault.RestartFault.{RestartFault}
 use Rattle.fp_restart.specs.declared.fault.RestartFault.TheVariants as fault
 use Rattle.log_groups.specs.Images.{BeginsFor, as_front}
-use Rattle.fp_system.specs.declared.parts.Setup.{Setup}
-use Rattle.fp_system.specs.Answers.{IsEarly, IsOfLog, MayStandIn, faulty_line, status_of_stop}
-use Rattle.fp_system.specs.inside.Answers.{IsOfParts, status_of_fault}
+use Rattle.command_tasks.specs.declared.parts.Setup.{Setup}
+use Rattle.command_tasks.specs.Answers.{IsEarly, IsOfLog, IsOfParts, MayStandIn}
+use Rattle.fp_system.specs.Table.{ByLog, IsEnd, IsGood, IsOld, IsSpared, damaged, end_of_lines, faulty_line, foreign, good}
+use Rattle.fp_system.specs.inside.Answers.{status_of_fault, status_of_stop}
 use Rattle.fp_core.specs.declared.stop.Stop.{Stop}
 use Rattle.fp_core.specs.declared.stop.Stop.TheVariants as stop
-use Rattle.fp_system.specs.Parts.{Job, front_for}
-use Rattle.fp_system.specs.inside.Setups.{IsSetup, job_of}
+use Rattle.command_tasks.specs.Parts.{Job, front_for}
+use Rattle.command_tasks.specs.Setups.{IsSetup, job_of}
 use Rattle.fp_system.specs.Table as table
-use Rattle.fp_system.specs.Table.{ByLog, foreign, damaged, good, IsEnd, IsGood, IsOld, IsSpared, end_of_lines}
-use Rattle.fp_system.specs.declared.status.Status.{Status}
-use Rattle.fp_system.specs.declared.status.Status.TheVariants.{Done, Damaged, Line, OldFormat}
+use Rattle.command_tasks.specs.declared.status.Status.{Status}
+use Rattle.command_tasks.specs.declared.status.Status.TheVariants.{Done, Damaged, Line, OldFormat}
 
 -- a good log isn't spared
 pub not_spared : (job : Job) (log : List ℕ) → IsGood job log → IsSpared job log → ⊥

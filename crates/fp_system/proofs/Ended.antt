@@ -17,12 +17,12 @@ use Rattle.fp_source.specs.declared.lines.Lines.{Lines}
 use Rattle.log_groups.specs.Images.{IsAtRest, IsLog}
 use Rattle.schedule_runs.specs.Standing.{IsDone, IsLeftOnWay, IsStopped}
 use Rattle.schedule_runs.specs.Ways.{Comes, next_event}
-use Rattle.fp_system.specs.Answers.{status_of_stop}
+use Rattle.fp_system.specs.inside.Answers.{status_of_stop}
 use Rattle.fp_system.specs.Courses.{EndsAt, Input, MayWant}
 use Rattle.fp_system.specs.inside.Courses.{RanFrom}
-use Rattle.fp_system.specs.Parts.{Job, rules_for}
-use Rattle.fp_system.specs.declared.status.Status.{Status}
-use Rattle.fp_system.specs.declared.status.Status.TheVariants.{Done}
+use Rattle.command_tasks.specs.Parts.{Job, rules_for}
+use Rattle.command_tasks.specs.declared.status.Status.{Status}
+use Rattle.command_tasks.specs.declared.status.Status.TheVariants.{Done}
 use Rattle.fp_system.proofs.Ways.{drop_least, goes_rest}
 
 -- ---- a disk that is at rest

@@ -1,6 +1,4 @@
 pub mod Results
-pub mod Jobs
-pub mod Events
 pub mod Ways
 pub mod Ended
 pub mod Went

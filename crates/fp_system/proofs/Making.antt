@@ -7,12 +7,12 @@ use Rattle.fp_restart.specs.declared.fault.RestartFault.TheVariants as fault
 use Rattle.fp_site.specs.Disk.{Disk}
 use Rattle.fp_site.specs.Moments.{OnlyOn, Through}
 use Rattle.log_groups.specs.Images.{IsAtRest, IsBeforeOrMade, as_front}
-use Rattle.fp_system.specs.Answers.{MayStandIn}
-use Rattle.fp_system.specs.declared.parts.Setup.{Setup}
-use Rattle.fp_system.specs.declared.status.Status.TheVariants.{Done}
+use Rattle.command_tasks.specs.Answers.{MayStandIn}
+use Rattle.command_tasks.specs.declared.parts.Setup.{Setup}
+use Rattle.command_tasks.specs.declared.status.Status.TheVariants.{Done}
 use Rattle.fp_system.specs.inside.Acted.{Made}
 use Rattle.fp_system.specs.inside.Answers.{answer_of}
-use Rattle.fp_system.specs.inside.Setups.{IsSetup, job_of}
+use Rattle.command_tasks.specs.Setups.{IsSetup, job_of}
 use Rattle.fp_system.proofs.Due.{fault_not_done, fault_stands}
 
 -- it is done, or a fault stands in the place of that

@@ -36,10 +36,10 @@ use Rattle.msdb_store.specs.Store.{Stored}
 use Rattle.fp_system.specs.Courses.{IsSoundFor}
 use Rattle.fp_system.specs.Gives.{HasMore, IsMigrating, IsMigratedOr, IsSafeFor, KeepsFront, Migrated, Moved, format_entry}
 use Rattle.fp_system.specs.Ims.{IsUnchanged}
-use Rattle.fp_system.specs.Parts.{Job, front_for, front_in}
+use Rattle.command_tasks.specs.Parts.{Job, front_for, front_in}
 use Rattle.fp_system.specs.Table.{IsOld}
-use Rattle.fp_system.specs.declared.status.Status.{Status}
-use Rattle.fp_system.specs.declared.status.Status.TheVariants.{Done, NoMemory, SiteFault}
+use Rattle.command_tasks.specs.declared.status.Status.{Status}
+use Rattle.command_tasks.specs.declared.status.Status.TheVariants.{Done, NoMemory, SiteFault}
 use Rattle.fp_system.specs.inside.Acted.{IsRestarted, Seals}
 use Rattle.fp_system.specs.inside.Answers.{status_of_seal}
 use Rattle.fp_system.proofs.Due.{not_spared}

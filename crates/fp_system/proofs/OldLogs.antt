@@ -9,7 +9,7 @@ use Rattle.fp_model.specs.LogText.{IsFormat, StartsWithFront, first_gate}
 use Rattle.fp_restart.proofs.Groups.{same_reading}
 use Rattle.log_groups.proofs.Fronts.{one_format, same_gate}
 use Rattle.fp_system.specs.Courses.{IsSoundFor}
-use Rattle.fp_system.specs.Parts.{Job, front_for, front_in}
+use Rattle.command_tasks.specs.Parts.{Job, front_for, front_in}
 use Rattle.fp_system.specs.Table.{IsOld}
 
 -- a format behind which is 1 was 1

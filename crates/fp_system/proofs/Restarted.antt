@@ -16,10 +16,10 @@ use Rattle.site_texts.specs.Texts.{ReadsOnce}
 use Rattle.log_groups.proofs.Fronts.{same_gate}
 use Rattle.msdb_store.specs.Store.{Stored}
 use Rattle.std.specs.Prelude.{List}
-use Rattle.fp_system.specs.declared.parts.Setup.{Setup}
+use Rattle.command_tasks.specs.declared.parts.Setup.{Setup}
 use Rattle.fp_system.specs.Courses.{IsSoundFor}
-use Rattle.fp_system.specs.Parts.{Job, front_for, front_in}
-use Rattle.fp_system.specs.inside.Setups.{IsSetup, job_of}
+use Rattle.command_tasks.specs.Parts.{Job, front_for, front_in}
+use Rattle.command_tasks.specs.Setups.{IsSetup, job_of}
 use Rattle.fp_system.specs.Table.{IsGood, IsOld}
 use Rattle.fp_system.specs.inside.Acted.{IsRestarted}
 use Rattle.fp_system.proofs.OldLogs.{old_only, old_where}

@@ -3,7 +3,7 @@ use Rattle.std.proofs.Common.{◌≡◌, inl, inr, refl, sym, ap, subst, arith, 
 use Rattle.fp_core.specs.Fronts.{HasFront, KeepsFronts}
 use Rattle.fp_model.specs.declared.log.Entry.{Entry}
 use Rattle.fp_model.specs.Recovery.{Holds}
-use Rattle.fp_model.specs.LogText.{first_gate}
+use Rattle.fp_model.specs.LogText.{Front, first_gate}
 use Rattle.fp_restart.proofs.Groups.{same_reading}
 use Rattle.fp_restart.proofs.Replays.{read_kept}
 use Rattle.fp_restart.specs.Replayed.{ReadsBack}
@@ -12,22 +12,20 @@ use Rattle.fp_site.specs.Moments.{OnlyOn, Through}
 use Rattle.fp_site.proofs.Images.{settles_left}
 use Rattle.fp_site.proofs.Runs.{joined, started, weaker}
 use Rattle.log_groups.specs.Images.{HasFrontOf, IsBeforeOrMade}
-use Rattle.fp_model.specs.LogText.{Front}
 use Rattle.balancing.specs.Numbered.{Numbered}
 use Rattle.log_groups.proofs.Fronts.{one_format}
 use Rattle.log_groups.specs.Log.{LogState}
 use Rattle.msdb_store.specs.Store.{Stored}
-use Rattle.fp_system.specs.Answers.{IsEarly, MayStandIn}
+use Rattle.command_tasks.specs.Answers.{IsEarly, MayStandIn}
 use Rattle.fp_system.specs.Courses.{Input, IsSoundFor}
 use Rattle.fp_system.specs.inside.Acted.{IsRestarted}
 use Rattle.fp_core.specs.Sparing.{IsLogSet as IsLog, Spares}
 use Rattle.fp_system.specs.Gives.{IsBeforeSite, IsSafeFor, KeepsFront, Ran, Went}
 use Rattle.fp_system.specs.Ims.{IsUnchanged}
-use Rattle.fp_system.specs.Parts.{Job, front_for, front_in}
+use Rattle.command_tasks.specs.Parts.{Job, front_for, front_in}
 use Rattle.fp_system.specs.Table.{IsOld}
-use Rattle.fp_system.specs.declared.status.Status.{Status}
-use Rattle.fp_system.specs.declared.status.Status.TheVariants.{Done, Usage, Definitions, Scripts, Schedule, ReadFault}
-use Rattle.fp_system.specs.declared.status.Status.TheVariants.{SiteFault, Foreign, Damaged, Line, NoMemory, NotBuilt, OldFormat, Illegal}
+use Rattle.command_tasks.specs.declared.status.Status.{Status}
+use Rattle.command_tasks.specs.declared.status.Status.TheVariants.{Damaged, Definitions, Done, Foreign, Illegal, Line, NoMemory, NotBuilt, OldFormat, ReadFault, Schedule, Scripts, SiteFault, Usage}
 use Rattle.command_words.specs.declared.words.Command.{Command}
 use Rattle.command_words.specs.declared.words.Command.TheVariants.{Define, Run}
 use Rattle.std.specs.Prelude.{Option, Some}

@@ -18,15 +18,15 @@ use Rattle.fp_site.specs.Disk.{Disk, IsDurable, IsLawful, Sends, Snapshot}
 use Rattle.fp_site.proofs.Runs.{elapses_none, started}
 use Rattle.site_texts.specs.Sent.{SyncsAndSends}
 use Rattle.site_texts.specs.Texts.{IsDbSent, IsLogSent, IsSentToDamage, ReadsOnce, SendsDb, SendsGroups, msdbs_text}
-use Rattle.fp_system.specs.Answers.{MayStandIn}
+use Rattle.command_tasks.specs.Answers.{MayStandIn}
 use Rattle.fp_system.specs.inside.Answers.{answer_of, status_of_fault}
-use Rattle.fp_system.specs.inside.Setups.{IsSetup, job_of}
-use Rattle.fp_system.specs.declared.parts.Setup.{Setup}
+use Rattle.command_tasks.specs.Setups.{IsSetup, job_of}
+use Rattle.command_tasks.specs.declared.parts.Setup.{Setup}
 use Rattle.fp_system.specs.Gives.{Logged, Shown}
-use Rattle.fp_system.specs.Parts.{Job, front_for, rules_for}
+use Rattle.command_tasks.specs.Parts.{Job, front_for, rules_for}
 use Rattle.fp_system.specs.Table.{ByGroups, ByLog, IsForeign, IsGood, broken, good, of_others, whole}
-use Rattle.fp_system.specs.declared.status.Status.{Status}
-use Rattle.fp_system.specs.declared.status.Status.TheVariants.{Damaged, Done}
+use Rattle.command_tasks.specs.declared.status.Status.{Status}
+use Rattle.command_tasks.specs.declared.status.Status.TheVariants.{Damaged, Done}
 use Rattle.fp_system.proofs.Due.{fault_due, fault_not_done, judged_due}
 use Rattle.fp_system.proofs.Restarted.{sound_for}
 

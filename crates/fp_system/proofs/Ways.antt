@@ -17,7 +17,7 @@ use Rattle.fp_model.proofs.FrameLemmas.{turn_keeps}
 use Rattle.schedule_runs.specs.Ways.{Comes, Goes, here, turn, again}
 use Rattle.sealed_runs.specs.Behind.{IsBehind}
 use Rattle.fp_system.specs.Courses.{IsHistoryOf}
-use Rattle.fp_system.specs.Parts.{Job, rules_for}
+use Rattle.command_tasks.specs.Parts.{Job, rules_for}
 use Rattle.plain_laws.proofs.Lists.{drop_more, drop_nil}
 
 -- ---- the run

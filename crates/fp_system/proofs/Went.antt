@@ -31,11 +31,11 @@ use Rattle.schedule_runs.specs.Ways.{Comes, next_event}
 use Rattle.sealed_runs.proofs.SoundLogs.{groups_sound}
 use Rattle.fp_system.specs.Courses.{Course, GoesOnTo, Input, IsHistoryOf, IsKeptBy, IsSoundFor, Point, with_seals}
 use Rattle.fp_system.specs.inside.Courses.{IsBegun, RanFrom}
-use Rattle.fp_system.specs.Answers.{MayStandIn}
+use Rattle.command_tasks.specs.Answers.{MayStandIn}
 use Rattle.fp_system.specs.Gives.{IsSafeFor, Went}
 use Rattle.fp_system.specs.Ims.{IsUnchanged}
-use Rattle.fp_system.specs.Parts.{Job, front_in, rules_for}
-use Rattle.fp_system.specs.declared.status.Status.{Status}
+use Rattle.command_tasks.specs.Parts.{Job, front_in, rules_for}
+use Rattle.command_tasks.specs.declared.status.Status.{Status}
 use Rattle.fp_system.proofs.Ways.{comes_behind}
 use Rattle.model_laws.proofs.Entries.{entries-append}
 

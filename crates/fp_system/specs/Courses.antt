@@ -14,10 +14,10 @@ use Rattle.fp_site.specs.Disk.{Disk, IsDurable, Settles, Snapshot, Syncs}
 use Rattle.log_groups.specs.Images.{IsLog as HasLog}
 use Rattle.log_groups.specs.Kept.{IsSound}
 use Rattle.schedule_runs.specs.Ways.{Comes, next_event}
-use Rattle.fp_system.specs.Answers.{MayStandIn}
-use Rattle.fp_system.specs.Parts.{Job, front_in, rules_for}
-use Rattle.fp_system.specs.declared.status.Status.{Status}
-use Rattle.fp_system.specs.declared.status.Status.TheVariants.{Done, ReadFault, SiteFault, Line, NoMemory}
+use Rattle.command_tasks.specs.Answers.{MayStandIn}
+use Rattle.command_tasks.specs.Parts.{Job, front_in, rules_for}
+use Rattle.command_tasks.specs.declared.status.Status.{Status}
+use Rattle.command_tasks.specs.declared.status.Status.TheVariants.{Done, ReadFault, SiteFault, Line, NoMemory}
 
 -- what a run is given: the events of its schedule, and the message lines
 pub record Input : Type 0 where

@@ -18,15 +18,15 @@ use Rattle.log_groups.specs.Images.{IsAtRest, IsBeforeOrMade, IsLog as HasLog}
 use Rattle.log_groups.specs.Kept.{IsSafe}
 use Rattle.fp_source.specs.declared.part.Part.{Part}
 use Rattle.fp_source.specs.declared.part.Part.TheVariants as part
-use Rattle.fp_system.specs.Answers.{IsEarly, IsOfLog}
+use Rattle.command_tasks.specs.Answers.{IsEarly, IsOfLog}
 use Rattle.fp_core.specs.Sparing.{IsLogSet as IsLog, Spares}
 use Rattle.fp_system.specs.Ims.{IsUnchanged}
 use Rattle.fp_exits.specs.Kinds.{Kinds}
-use Rattle.fp_system.specs.Parts.{Job, HasSchedule, IsJob, definitions_in, front_for, front_in, rules_for}
+use Rattle.command_tasks.specs.Parts.{Job, HasSchedule, IsJob, definitions_in, front_for, front_in, rules_for}
 use Rattle.fp_system.specs.Courses.{Course, GoesOnTo, Input, IsSoundFor, IsEnded, IsKeptBy, IsNotBegun, Point}
 use Rattle.fp_system.specs.Table.{Given, IsOld, IsSpared}
-use Rattle.fp_system.specs.declared.status.Status.{Status}
-use Rattle.fp_system.specs.declared.status.Status.TheVariants.{Damaged, Done, Illegal, ReadFault, SiteFault, NoMemory}
+use Rattle.command_tasks.specs.declared.status.Status.{Status}
+use Rattle.command_tasks.specs.declared.status.Status.TheVariants.{Damaged, Done, Illegal, ReadFault, SiteFault, NoMemory}
 use Rattle.command_words.specs.declared.words.Command.{Command}
 use Rattle.command_words.specs.declared.words.Command.TheVariants.{Define, Run}
 

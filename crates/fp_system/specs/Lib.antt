@@ -1,9 +1,5 @@
-pub mod Texts
-pub mod Answers
-pub mod Parts
 pub mod Courses
 pub mod Ims
 pub mod Table
-pub mod Causes
 pub mod Gives
 pub mod inside

@@ -1,8 +1,9 @@
 -- Which answer is due: of the words, then of definitions, scripts and schedule, then of the log, then of the message
 -- lines.
 use denote.Param.Members.{Mut}
-use Rattle.std.specs.Prelude.{◌≡◌, ◌⊎◌, ℕ, List, Option, Some, None, ⊤, map, String, string_bytes}
+use Rattle.std.specs.Prelude.{◌≡◌, ◌⊎◌, ℕ, List, Option, Some, None, ⊤, map, option_map, String, string_bytes}
 use Rattle.std.specs.Borrow.{Bor}
+use Rattle.fp_core.specs.Standing.{number_of}
 use Rattle.fp_exits.specs.Kinds.{Kinds, kinds_of}
 use Rattle.fp_exits.specs.declared.exits.Exits.{Exits}
 use Rattle.fp_model.specs.declared.name.Name.{Name}
@@ -10,17 +11,18 @@ use Rattle.fp_model.specs.declared.log.Entry.{Entry}
 use Rattle.fp_model.specs.Groups.{HoldsGroups, IsDamaged, entries_of}
 use Rattle.fp_model.specs.Lasts.{format_at}
 use Rattle.fp_model.specs.LogText.{first_gate}
+use Rattle.fp_model.specs.Messages.{line_fault}
 use Rattle.log_groups.specs.Images.{BeginsFor, HoldsFor}
 use Rattle.fp_restart.specs.Replayed.{IsFirstBadAt, IsReadable}
 use Rattle.fp_site.specs.Disk.{Disk}
 use Rattle.site_audit.specs.Legal.{IsBrokenAt, IsIllegalLog, IsLegalLog}
 use Rattle.fp_source.specs.declared.part.Part.{Part}
 use Rattle.fp_source.specs.declared.part.Part.TheVariants as part
-use Rattle.fp_system.specs.Answers.{MayStandIn, faulty_line}
-use Rattle.fp_system.specs.Parts.{Job, HasSchedule, IsJob, Refuses, front_for}
+use Rattle.command_tasks.specs.Answers.{MayStandIn}
+use Rattle.command_tasks.specs.Parts.{Job, HasSchedule, IsJob, Refuses, front_for}
 use Rattle.command_words.specs.Words.{command_of}
-use Rattle.fp_system.specs.declared.status.Status.{Status}
-use Rattle.fp_system.specs.declared.status.Status.TheVariants.{Done, Usage, Foreign, Damaged, Line, OldFormat, Illegal}
+use Rattle.command_tasks.specs.declared.status.Status.{Status}
+use Rattle.command_tasks.specs.declared.status.Status.TheVariants.{Done, Usage, Foreign, Damaged, Line, OldFormat, Illegal}
 use Rattle.command_words.specs.declared.words.Command.{Command}
 use Rattle.command_words.specs.declared.words.Command.TheVariants.{Define, Run, Show, Log, Migrate, Audit}
 
@@ -90,7 +92,11 @@ pub data ByEntries (job : Job) (log : List ℕ) : Status → Type 0 where
 
 -- ---- the lines
 
--- the first line that isn't taken, or the end
+-- the number of the first line that isn't taken, if there is one
+abbrev pub faulty_line : List ℕ → Option ℕ
+faulty_line bytes = option_map number_of (line_fault bytes)
+
+-- that line, or the end
 abbrev pub end_of_lines : Option ℕ → Status
 end_of_lines None = Done
 end_of_lines (Some number) = Line number

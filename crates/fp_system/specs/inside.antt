@@ -1,4 +1,3 @@
 pub mod Acted
 pub mod Answers
 pub mod Courses
-pub mod Setups

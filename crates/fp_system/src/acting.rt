@@ -11,19 +11,19 @@ ghost use Rattle.fp_model.specs.Messages.{lines_of};
 ghost use Rattle.fp_site.specs.Moments.{OnlyOn};
 ghost use Rattle.fp_site.specs.Site.{ReadsNothing};
 ghost use Rattle.fp_source.specs.declared.part.Part.TheVariants as part;
-ghost use Rattle.fp_system.specs.Answers.{IsEarly, IsOfLog, MayStandIn, faulty_line, status_of_stop};
+ghost use Rattle.command_tasks.specs.Answers.{IsEarly, IsOfLog, MayStandIn};
+ghost use Rattle.fp_system.specs.Table.{ByEntries, ByGroups, ByLog, IsEnd, faulty_line};
+ghost use Rattle.fp_system.specs.inside.Answers.{IsOfSite, answer_of, status_of_audit, status_of_seal, status_of_stop};
 ghost use Rattle.fp_system.specs.inside.Acted.{IsRefusedLog, IsRestarted, Made, Seals};
-ghost use Rattle.fp_system.specs.inside.Answers.{IsOfSite, answer_of, status_of_audit, status_of_seal};
-ghost use Rattle.fp_system.specs.Causes.{IsCaused, IsCausedBySite};
+ghost use Rattle.command_tasks.specs.Causes.{IsCaused, IsCausedBySite};
 ghost use Rattle.fp_system.specs.Courses.{input};
 ghost use Rattle.fp_system.specs.inside.Courses.{IsBegun, RanFrom};
 ghost use Rattle.fp_core.specs.Sparing.{IsLogSet as IsLog, Spares};
 ghost use Rattle.fp_system.specs.Gives.{Audited, Logged, Migrated, Ran, Shown, format_entry};
 ghost use Rattle.fp_system.specs.Ims.{IsUnchanged};
-ghost use Rattle.fp_system.specs.Parts.{front_for};
-ghost use Rattle.fp_system.specs.inside.Setups.{IsSetup, job_of};
-ghost use Rattle.fp_system.specs.Table.{ByEntries, ByGroups, ByLog, IsEnd};
-ghost use Rattle.fp_system.specs.declared.status.Status.TheVariants as status;
+ghost use Rattle.command_tasks.specs.Parts.{front_for};
+ghost use Rattle.command_tasks.specs.Setups.{IsSetup, job_of};
+ghost use Rattle.command_tasks.specs.declared.status.Status.TheVariants as status;
 ghost use Rattle.log_groups.specs.Images.{IsAtRest};
 ghost use Rattle.log_groups.specs.Reads.{ReadsOnlyLog};
 ghost use Rattle.msdb_store.specs.Store.{IsOf};
@@ -33,9 +33,8 @@ ghost use Rattle.fp_model.specs.declared.log.Entry.{Entry as EntryOf};
 ghost use Rattle.fp_restart.specs.Replayed.{AreOfSome};
 ghost use Rattle.std.specs.Prelude.{◌≡◌, ◌⊎◌, ◌∷◌, ℕ, [], IfErr, IfOk, List as ListOf, None, OnOk, Some, true};
 
-use crate::Status;
-use crate::parts::{Setup, Task};
-use fp_core::{Core, Started};
+use command_tasks::{Setup, Status, Task};
+use fp_core::{Core, Started, Stop};
 use fp_exits::Exits;
 use fp_model::{Bytes, Entry, List, Outcome};
 use fp_restart::{RestartFault, define, restart};
@@ -199,6 +198,18 @@ fn restart_for<T: Site>(alloc: Global, site: &mut T, setup: &Setup) -> Result<St
     }
 }
 
+// The answer to a step that ended the run.
+fn stop_status(stop: Stop) -> Status
+    ensures { result ≡ status_of_stop stop }
+{
+    match stop {
+        Stop::LogFault => Status::SiteFault,
+        Stop::ReadFault => Status::ReadFault,
+        Stop::LineFault(number) => Status::Line { number },
+        Stop::Memory => Status::NoMemory,
+    }
+}
+
 // Runs the schedule and the drain, behind what a restart gave.
 fn run_started<S: Source, T: Site>(
     alloc: Global,
@@ -244,7 +255,7 @@ fn run_started<S: Source, T: Site>(
     };
     match run_schedule(&mut core, task.events.as_slice(), site, source) {
         Ok(()) => Status::Done,
-        Err(stop) => Status::from(stop),
+        Err(stop) => stop_status(stop),
     }
 }
 

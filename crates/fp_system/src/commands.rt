@@ -1,17 +1,16 @@
 //! What a command does with the parts of the source and the site.
 ghost use Rattle.fp_model.specs.Events.{IsEventOf};
-ghost use Rattle.fp_exits.specs.Kinds.{has_kind, kinds_of};
-ghost use Rattle.fp_exits.specs.Kinds.{Kinds};
+ghost use Rattle.fp_exits.specs.Kinds.{Kinds, has_kind, kinds_of};
 ghost use Rattle.fp_lists.specs.Continued.{IsContinued};
 ghost use Rattle.fp_source.specs.declared.part.Part.{Part as PartOf};
 ghost use Rattle.fp_source.specs.declared.part.Part.TheVariants as part;
-ghost use Rattle.fp_system.specs.Causes.{IsCaused};
+ghost use Rattle.command_tasks.specs.Causes.{IsCaused};
 ghost use Rattle.fp_system.specs.Gives.{InOrder, IsBeforeSite, Took};
-ghost use Rattle.fp_system.specs.Parts.{Job, front_for};
+ghost use Rattle.command_tasks.specs.Parts.{Job, front_for};
 ghost use Rattle.fp_system.specs.Table.{Asks};
 ghost use Rattle.fp_system.specs.inside.Acted.{Acted, IsLate, IsReadOf, Served, given_of};
-ghost use Rattle.fp_system.specs.inside.Setups.{IsSetup, job_of};
-ghost use Rattle.fp_system.specs.declared.status.Status.TheVariants as status;
+ghost use Rattle.command_tasks.specs.Setups.{IsSetup, job_of};
+ghost use Rattle.command_tasks.specs.declared.status.Status.TheVariants as status;
 ghost use Rattle.command_words.specs.Words.{command_of};
 ghost use Rattle.command_words.specs.declared.words.Command.{Command as CommandOf};
 ghost use Rattle.log_groups.specs.Reads.{ReadsOnlyLog};
@@ -19,9 +18,8 @@ ghost use Rattle.site_texts.specs.Texts.{ReadsOnce};
 ghost use Rattle.std.specs.List.{AllByRecursion};
 ghost use Rattle.std.specs.Prelude.{◌≡◌, ◌⊎◌, ℕ, List as ListOf, None, Some, true};
 
-use crate::Status;
 use crate::acting::{audit_on, define_on, log_on, migrate_on, run_on, show_on};
-use crate::parts::{Task, read_task};
+use command_tasks::{Status, Task, read_task};
 use command_words::Command;
 use fp_exits::Exits;
 use fp_site::Site;

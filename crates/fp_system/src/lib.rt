@@ -3,10 +3,7 @@
 
 mod acting;
 mod commands;
-mod parts;
-mod status;
-mod texts;
 mod top;
 
-pub use status::{Status, fault_text};
+pub use command_tasks::{Status, fault_text};
 pub use top::ims;

@@ -7,7 +7,7 @@
 ghost use Rattle.std.specs.Prelude.{◌≡◌, ◌≢◌, IsErr, IsOk, None, true};
 ghost use Rattle.fp_exits.specs.Ranges.{IsRoutable, IsSpreadable};
 ghost use Rattle.fp_model.specs.Exits.{route, spread};
-ghost use Rattle.fp_system.specs.declared.status.Status.{Status};
+ghost use Rattle.command_tasks.specs.declared.status.Status.{Status};
 ghost use Rattle.fp_files.specs.Calls.{is_written_out};
 
 use fp_exits::{

@@ -19,9 +19,9 @@ use Rattle.system_laws.specs.Answered.{AnswersEachLine}
 use Rattle.fp_core.specs.Sparing.{IsSealing}
 use Rattle.fp_system.specs.Courses.{Course, Input, IsEnded, IsSoundFor, with_seals}
 use Rattle.fp_system.specs.Gives.{Went}
-use Rattle.fp_system.specs.Parts.{IsJob, Job, rules_for}
-use Rattle.fp_system.specs.declared.status.Status.TheVariants.{Done}
-use Rattle.fp_system.proofs.Jobs.{read_for}
+use Rattle.command_tasks.specs.Parts.{IsJob, Job, rules_for}
+use Rattle.command_tasks.specs.declared.status.Status.TheVariants.{Done}
+use Rattle.command_tasks.proofs.Jobs.{read_for}
 use Rattle.fp_system.proofs.Ways.{goes_runs}
 use Rattle.model_laws.proofs.Entries.{entries-append}
 

@@ -23,8 +23,8 @@ use Rattle.schedule_runs.specs.Ways.{Comes, NoneStarved}
 use Rattle.sealed_runs.proofs.Making.{no_area}
 use Rattle.fp_system.specs.Courses.{Input, IsHistoryOf, IsSoundFor, Point}
 use Rattle.fp_system.specs.Gives.{Went}
-use Rattle.fp_system.specs.Parts.{Job, rules_for}
-use Rattle.fp_system.specs.declared.status.Status.TheVariants.{Done}
+use Rattle.command_tasks.specs.Parts.{Job, rules_for}
+use Rattle.command_tasks.specs.declared.status.Status.TheVariants.{Done}
 use Rattle.system_laws.proofs.AnsweredLemmas.{end, its_text}
 
 -- ---- the databases of a sound log

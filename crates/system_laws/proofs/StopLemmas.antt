@@ -17,11 +17,11 @@ use Rattle.fp_system.proofs.Ways.{comes_behind}
 use Rattle.fp_system.specs.Gives.{IsMigratedOr, IsSafeFor, Migrated, Moved, Ran, Went, format_entry}
 use Rattle.fp_system.specs.Ims.{IsUnchanged}
 use Rattle.fp_system.proofs.OldLogs.{old_or_not}
-use Rattle.fp_system.specs.Parts.{Job, front_for}
+use Rattle.command_tasks.specs.Parts.{Job, front_for}
 use Rattle.fp_system.specs.Courses.{Course, GoesOnTo, Input, IsSoundFor, Point, with_seals}
 use Rattle.system_laws.specs.Stops.{Calls, HeldThrough, HoldsOn, HoldsSince, IsBegunAgain, IsTold, Lives, Standing, standing}
 use Rattle.system_laws.specs.Stops as stops
-use Rattle.fp_system.specs.declared.status.Status.{Status}
+use Rattle.command_tasks.specs.declared.status.Status.{Status}
 use Rattle.model_laws.proofs.Entries.{entries-append}
 
 -- ---- one log

@@ -12,18 +12,17 @@ use Rattle.fp_restart.proofs.Replays.{one_first_bad, readable_not_bad, sound_beg
 use Rattle.site_audit.specs.Legal.{IsBrokenAt}
 use Rattle.site_audit.proofs.Readings.{legal_or_not, one_illegal}
 use Rattle.log_groups.specs.Images.{HoldsFor}
-use Rattle.fp_system.specs.Answers.{faulty_line}
-use Rattle.fp_system.specs.Parts.{Job, Refuses, front_for, front_in}
+use Rattle.fp_system.specs.Table.{Given, Asks, ByEntries, ByGroups, ByLog, IsDue, IsDueTo, IsEnd, IsGood, end_of_lines, faulty_line}
+use Rattle.fp_system.specs.Table.{asked, broken, damaged, foreign, good, illegal, legal, lines, no_command, of_none, of_others, old, refused, torn, whole}
+use Rattle.command_tasks.specs.Parts.{Job, Refuses, front_for, front_in}
 use Rattle.fp_source.specs.declared.part.Part.TheVariants as part
 use Rattle.command_words.specs.Words.{command_of}
-use Rattle.fp_system.specs.declared.status.Status.{Status}
-use Rattle.fp_system.specs.declared.status.Status.TheVariants.{Damaged, Done, Illegal, OldFormat}
+use Rattle.command_tasks.specs.declared.status.Status.{Status}
+use Rattle.command_tasks.specs.declared.status.Status.TheVariants.{Damaged, Done, Illegal, OldFormat}
 use Rattle.command_words.specs.declared.words.Command.{Command}
 use Rattle.command_words.specs.declared.words.Command.TheVariants.{Define, Run, Show, Log, Migrate, Audit}
-use Rattle.fp_system.proofs.Jobs.{one_job, one_answer, no_job_refused}
+use Rattle.command_tasks.proofs.Jobs.{one_job, one_answer, no_job_refused}
 use Rattle.fp_system.specs.Courses.{IsSoundFor}
-use Rattle.fp_system.specs.Table.{Given, Asks, ByEntries, ByGroups, ByLog, IsDue, IsDueTo, IsEnd, IsGood, end_of_lines}
-use Rattle.fp_system.specs.Table.{asked, broken, damaged, foreign, good, illegal, legal, lines, no_command, of_none, of_others, old, refused, torn, whole}
 
 -- ---- the log
 

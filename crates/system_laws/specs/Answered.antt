@@ -6,7 +6,7 @@ use Rattle.fp_site.specs.Disk.{Disk, IsDurable}
 use Rattle.line_laws.specs.Answered.{is_from, lines_answered}
 use Rattle.log_groups.specs.Kept.{lines_of_entries}
 use Rattle.fp_system.specs.Courses.{IsSoundFor}
-use Rattle.fp_system.specs.Parts.{Job, rules_for}
+use Rattle.command_tasks.specs.Parts.{Job, rules_for}
 
 -- Behind the entries from before, those of this run answer just its lines: of each terminal its lines, in their order,
 -- and so those in which no terminal can be read. They stand in the log for good, and just their reply lines were sent,

@@ -7,8 +7,8 @@ use Rattle.number_laws.specs.Once.{IsOnce}
 use Rattle.fp_system.specs.Courses.{Input, IsSoundFor}
 use Rattle.fp_system.specs.Gives.{Migrated, Ran}
 use Rattle.fp_system.specs.Ims.{IsUnchanged}
-use Rattle.fp_system.specs.Parts.{Job}
-use Rattle.fp_system.specs.declared.status.Status.{Status}
+use Rattle.command_tasks.specs.Parts.{Job}
+use Rattle.command_tasks.specs.declared.status.Status.{Status}
 
 -- What stood at some time: the format of the log's front, its entries, and the bytes sent by then.
 pub record Standing : Type 0 where

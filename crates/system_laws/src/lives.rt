@@ -1,7 +1,7 @@
 //! A site in memory that is made, run, run again, stopped, and begun again from what the stop left: what clauses say of
 //! it.
 ghost use Rattle.memory_site.specs.Memory.{memory_disk};
-ghost use Rattle.fp_system.specs.Parts.{Job};
+ghost use Rattle.command_tasks.specs.Parts.{Job};
 ghost use Rattle.system_laws.specs.Stops.{HoldsOn, IsOnceOn, Standing, standing};
 ghost use Rattle.fp_system.specs.Table.{Asks, given};
 ghost use Rattle.command_words.specs.declared.words.Command.TheVariants as command;

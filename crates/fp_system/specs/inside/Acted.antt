@@ -19,15 +19,15 @@ use Rattle.fp_source.specs.declared.part.Part.TheVariants as part
 use Rattle.log_groups.specs.Images.{IsAtRest, IsBeforeOrAfter, IsBeforeOrMade, IsWithOrWithout}
 use Rattle.log_groups.specs.Log.{LogState}
 use Rattle.msdb_store.specs.Store.{Stored}
-use Rattle.fp_system.specs.Answers.{IsEarly, MayStandIn}
-use Rattle.fp_system.specs.Causes.{IsCaused}
+use Rattle.command_tasks.specs.Answers.{IsEarly, MayStandIn}
+use Rattle.command_tasks.specs.Causes.{IsCaused}
 use Rattle.fp_system.specs.Courses.{Input, IsSoundFor, input}
 use Rattle.fp_system.specs.Gives.{Audited, HasNewText, IsBeforeSite, Logged, Migrated, Ran, Shown}
-use Rattle.fp_system.specs.Parts.{Job, front_for, front_in}
+use Rattle.command_tasks.specs.Parts.{Job, front_for, front_in}
 use Rattle.fp_system.specs.Table.{Asks, ByLog, Given, IsAnswerTo, IsDueTo, IsGood}
-use Rattle.fp_system.specs.declared.status.Status.{Status}
-use Rattle.fp_system.specs.declared.status.Status.TheVariants.{Done}
-use Rattle.fp_system.specs.inside.Setups.{HasEventsFor}
+use Rattle.command_tasks.specs.declared.status.Status.{Status}
+use Rattle.command_tasks.specs.declared.status.Status.TheVariants.{Done}
+use Rattle.command_tasks.specs.Setups.{HasEventsFor}
 
 -- ---- a restart
 

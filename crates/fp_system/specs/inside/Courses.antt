@@ -14,8 +14,8 @@ use Rattle.log_groups.specs.Log.{LogState}
 use Rattle.msdb_store.specs.Store.{Stored}
 use Rattle.schedule_runs.specs.Standing.{IsLeftOnWay}
 use Rattle.schedule_runs.specs.Ways.{Comes, next_event}
-use Rattle.fp_system.specs.Parts.{Job, rules_for}
-use Rattle.fp_system.specs.declared.status.Status.{Status}
+use Rattle.command_tasks.specs.Parts.{Job, rules_for}
+use Rattle.command_tasks.specs.declared.status.Status.{Status}
 use Rattle.fp_system.specs.Courses.{Input, EndsAt}
 
 -- ---- from where a run begins

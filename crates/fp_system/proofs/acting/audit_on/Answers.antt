@@ -4,13 +4,13 @@ use Rattle.fp_exits.specs.Kinds.{has_kind, kinds_of}
 use Rattle.fp_model.specs.declared.definitions.DedbDef.{DedbDef}
 use Rattle.fp_model.specs.LogText.{Front}
 use Rattle.site_texts.specs.Texts.{ReadsOnce}
-use Rattle.fp_system.specs.Answers.{MayStandIn}
-use Rattle.fp_system.specs.Causes.{IsCausedBySite}
+use Rattle.command_tasks.specs.Answers.{MayStandIn}
+use Rattle.command_tasks.specs.Causes.{IsCausedBySite}
 use Rattle.fp_system.specs.Gives.{Audited}
 use Rattle.fp_system.specs.Table.{ByEntries}
-use Rattle.fp_system.specs.declared.status.Status.{Status}
+use Rattle.command_tasks.specs.declared.status.Status.{Status}
 use Rattle.fp_system.specs.inside.Answers.{IsOfSite}
-use Rattle.fp_system.specs.inside.Setups.{job_of}
+use Rattle.command_tasks.specs.Setups.{job_of}
 use Rattle.fp_system.proofs.Audits.{audit_due, audited_for}
 use Rattle.fp_system.proofs.CauseLemmas.{audit_by_site, audit_of_site}
 use Rattle.txn_lang.proofs.Fitting.{what_was_read_suits}
@@ -27,7 +27,7 @@ audit-requires g c = record {
     good = c.requires.are;
     suit = what_was_read_suits c.args.setup.now.defs c.args.setup.now.scripts.text c.args.setup.now.scripts.scripts
         c.requires.scripts;
-    cheap = c.requires.runs.cheap;
+    cheap = c.requires.cheap;
   };
 }
 

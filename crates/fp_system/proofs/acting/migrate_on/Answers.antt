@@ -1,13 +1,13 @@
 use Rattle.std.proofs.Common.{◌≡◌, ◌⊎◌, ◌∙◌, inl, inr, refl, sym, subst, ℕ, List}
-use Rattle.fp_system.specs.Answers.{MayStandIn}
+use Rattle.command_tasks.specs.Answers.{MayStandIn}
 use Rattle.fp_system.specs.Table as table
-use Rattle.fp_system.specs.declared.status.Status.{Status}
-use Rattle.fp_system.specs.declared.status.Status.TheVariants.{Done, NoMemory, SiteFault}
+use Rattle.command_tasks.specs.declared.status.Status.{Status}
+use Rattle.command_tasks.specs.declared.status.Status.TheVariants.{Done, NoMemory, SiteFault}
 use Rattle.fp_system.specs.inside.Answers.{IsOfSite}
-use Rattle.fp_system.specs.inside.Setups.{job_of}
+use Rattle.command_tasks.specs.Setups.{job_of}
 use Rattle.fp_system.specs.Table.{ByLog, IsGood}
-use Rattle.fp_system.specs.Parts.{Job}
-use Rattle.fp_system.proofs.CauseLemmas.{site_since}
+use Rattle.command_tasks.specs.Parts.{Job}
+use Rattle.command_tasks.proofs.CauseLemmas.{site_since}
 use Rattle.fp_system.proofs.Due.{judged_due}
 use Rattle.fp_system.proofs.Migrations.{migrated_not, migrated_on, moved_not}
 use Rattle.fp_system.proofs.Restarted.{log_behind, new_told, once_behind}

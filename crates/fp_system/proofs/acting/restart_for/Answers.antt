@@ -1,9 +1,9 @@
 use Rattle.std.proofs.Common.{◌∙◌, ap, refl, sym, subst}
 use Rattle.std.specs.Prelude.{Err}
-use Rattle.fp_system.specs.Causes.{IsCausedBySite}
+use Rattle.command_tasks.specs.Causes.{IsCausedBySite}
 use Rattle.fp_system.specs.inside.Acted.{IsRefusedLog}
 use Rattle.fp_system.specs.inside.Answers.{IsOfSite}
-use Rattle.fp_system.specs.inside.Setups.{job_of}
+use Rattle.command_tasks.specs.Setups.{job_of}
 use Rattle.fp_system.proofs.CauseLemmas.{fault_by_site, fault_of_site, one_err}
 use Rattle.fp_system.proofs.Due.{fault_due, fault_not_done, fault_stands}
 use Rattle.fp_system.proofs.Restarted.{back_for, good_for, once_for, sound_for, stands_for}

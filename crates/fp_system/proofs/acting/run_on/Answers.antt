@@ -2,14 +2,15 @@ use Rattle.std.proofs.Common.{◌∙◌, ⊎_elim, refl, sym, subst}
 use Rattle.fp_core.specs.Standing.{Origin}
 use Rattle.fp_model.specs.Messages.{lines_of}
 use Rattle.fp_source.specs.declared.part.Part.TheVariants as part
-use Rattle.fp_system.specs.Answers.{MayStandIn}
+use Rattle.command_tasks.specs.Answers.{MayStandIn}
 use Rattle.fp_system.specs.Courses.{input}
 use Rattle.fp_system.specs.Gives.{Went}
-use Rattle.fp_system.specs.Parts.{front_in}
+use Rattle.command_tasks.specs.Parts.{front_in}
 use Rattle.fp_system.specs.Table.{IsEnd}
-use Rattle.fp_system.specs.declared.status.Status.TheVariants.{OldFormat}
-use Rattle.fp_system.specs.inside.Setups.{job_of}
-use Rattle.fp_system.proofs.CauseLemmas.{no_read_fault, site_since}
+use Rattle.command_tasks.specs.declared.status.Status.TheVariants.{OldFormat}
+use Rattle.command_tasks.specs.Setups.{job_of}
+use Rattle.fp_system.proofs.CauseLemmas.{no_read_fault}
+use Rattle.command_tasks.proofs.CauseLemmas.{site_since}
 use Rattle.fp_system.proofs.Due.{ended_due, judged_due, late, not_of_log, old_due}
 use Rattle.fp_system.proofs.Restarted.{log_behind, new_told, old_told, once_behind}
 use Rattle.fp_system.proofs.Runs.{ran_not, ran_on}

@@ -16,17 +16,20 @@ use Rattle.fp_site.specs.Moments.{Through}
 use Rattle.schedule_runs.specs.Standing.{IsDone, IsLeftOnWay, IsStopped}
 use Rattle.fp_system.specs.Courses.{input}
 use Rattle.fp_system.specs.inside.Courses.{RanFrom}
-use Rattle.fp_system.specs.declared.status.Status.{Status}
-use Rattle.fp_system.specs.Parts.{rules_for}
-use Rattle.fp_system.specs.inside.Setups.{job_of}
-use Rattle.fp_system.proofs.Begins.{any_history, any_states, reached_at_rest, stands_beside}
+use Rattle.command_tasks.specs.declared.status.Status.{Status}
+use Rattle.command_tasks.specs.Parts.{rules_for}
+use Rattle.command_tasks.specs.Setups.{job_of}
+use Rattle.fp_system.proofs.Begins.{any_history, any_states, can_run, reached_at_rest, stands_beside}
 use Rattle.fp_core.proofs.Onwards.{reads_nothing_none}
-use Rattle.fp_system.specs.Causes.{IsCaused}
+use Rattle.command_tasks.specs.Causes.{IsCaused}
 use Rattle.fp_system.proofs.CauseLemmas.{stop_by_site, stop_by_source}
 use Rattle.fp_system.proofs.Ended.{ended_done, ended_early}
 use Rattle.fp_core.proofs.FrontLemmas.{fronts_from, fronts_none}
 use Rattle.fp_core.proofs.SparingLemmas.{spares_none}
 use Rattle.fp_system.proofs.acting.run_started.Goals as goal
+
+pub new-requires-clause-setup : goal.new-requires-clause-setup
+new-requires-clause-setup g c = can_run c.args.task.now.setup c.requires.setup
 
 pub returns-in-Err-clause-ran : goal.returns-in-Err-clause-ran
 returns-in-Err-clause-ran g c origin h s t is = inr (refl, refl)
@@ -108,7 +111,7 @@ returns-clause-ran g c origin h s t is =
     let stopped = as_given (λ d r es. IsStopped origin d r es m old core.lines new why) c.in-Ok.ensures.defs
     c.in-Ok.ensures.rules c.as_slice.ensures (c.in-Err-run_schedule.ensures.stopped origin m t s beside reached) in
     let none = c.in-Ok.ensures.given in
-    inl (subst (λ (answer : Status). RanFrom job given origin h answer old new) (sym c.from.ensures)
+    inl (subst (λ (answer : Status). RanFrom job given origin h answer old new) (sym c.stop_status.ensures)
     (ended_early job given origin h old new core.lines why stopped
     (λ number e. omega (arith, stopped.first number e, none))
     (as_given (λ d r es. Through old new (IsLeftOnWay origin d r es m old)) c.in-Ok.ensures.defs c.in-Ok.ensures.rules
@@ -120,7 +123,7 @@ pub returns-in-Err-clause-outcome : goal.returns-in-Err-clause-outcome
 returns-in-Err-clause-outcome g c = inr (stop.Memory, refl)
 
 pub returns-clause-outcome : goal.returns-clause-outcome
-returns-clause-outcome g c = inr (c.in-Err-run_schedule.stop, c.from.ensures)
+returns-clause-outcome g c = inr (c.in-Err-run_schedule.stop, c.stop_status.ensures)
 
 -- ---- faults, and what is read
 
@@ -144,7 +147,7 @@ returns-clause-cause g c =
     let read2 = g.S.Source.faults c.run_schedule.new.source in
     let site = g.T.Site.faults c.args.site.now in
     let site2 = g.T.Site.faults c.run_schedule.new.site in
-    subst (IsCaused read read2 site site2) (sym c.from.ensures) (record {
+    subst (IsCaused read read2 site site2) (sym c.stop_status.ensures) (record {
       source = stop_by_source read read2 why c.in-Err-run_schedule.ensures.source_cause;
       site = stop_by_site site site2 why c.in-Err-run_schedule.ensures.site_cause;
     })
@@ -154,7 +157,7 @@ returns-clause-line g c number s e =
     let left = g.S.Source.left c.args.source.now part.Messages in
     ap (option_map number_of) (sym (c.in-Ok.ensures.fault left))
     ∙ c.in-Err-run_schedule.ensures.line s number
-    (ap (λ why. Err why) (stop_line c.in-Err-run_schedule.stop number (sym c.from.ensures ∙ e)))
+    (ap (λ why. Err why) (stop_line c.in-Err-run_schedule.stop number (sym c.stop_status.ensures ∙ e)))
 
 -- ---- what stands in front of the gate
 

@@ -1,14 +1,14 @@
 use Rattle.std.proofs.Common.{◌≡◌, ◌⊎◌, sym, subst}
 use Rattle.fp_model.specs.LogText.{Front}
 use Rattle.site_texts.specs.Texts.{ReadsOnce}
-use Rattle.fp_system.specs.Answers.{MayStandIn}
-use Rattle.fp_system.specs.Causes.{IsCausedBySite}
+use Rattle.command_tasks.specs.Answers.{MayStandIn}
+use Rattle.command_tasks.specs.Causes.{IsCausedBySite}
 use Rattle.fp_system.specs.Gives.{Shown}
 use Rattle.fp_system.specs.Table.{ByLog}
-use Rattle.fp_system.specs.declared.status.Status.{Status}
-use Rattle.fp_system.specs.declared.status.Status.TheVariants.{Done}
+use Rattle.command_tasks.specs.declared.status.Status.{Status}
+use Rattle.command_tasks.specs.declared.status.Status.TheVariants.{Done}
 use Rattle.fp_system.specs.inside.Answers.{IsOfSite}
-use Rattle.fp_system.specs.inside.Setups.{job_of}
+use Rattle.command_tasks.specs.Setups.{job_of}
 use Rattle.fp_system.proofs.CauseLemmas.{done_by_site, done_of_site}
 use Rattle.fp_system.proofs.SentTexts.{show_due, shown_for}
 use Rattle.fp_system.proofs.acting.show_on.Goals as goal

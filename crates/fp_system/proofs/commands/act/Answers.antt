@@ -3,12 +3,12 @@ use Rattle.command_words.specs.declared.words.Command.{Command}
 use Rattle.command_words.specs.declared.words.Command.TheVariants as command
 use Rattle.fp_model.specs.Messages.{lines_of}
 use Rattle.fp_source.specs.declared.part.Part.TheVariants as part
-use Rattle.fp_system.specs.Answers.{MayStandIn}
+use Rattle.command_tasks.specs.Answers.{MayStandIn}
 use Rattle.fp_system.specs.Courses.{input}
 use Rattle.fp_system.specs.Gives.{Ran, Took}
 use Rattle.fp_system.specs.Table.{ByLog, IsEnd}
 use Rattle.fp_system.specs.inside.Acted.{Acted, IsLate, given_of}
-use Rattle.fp_system.specs.inside.Setups.{job_of}
+use Rattle.command_tasks.specs.Setups.{job_of}
 use Rattle.fp_system.proofs.Calls.{late_on, late_run, of_same, took_none}
 use Rattle.fp_system.proofs.commands.act.Goals as goal
 

@@ -3,16 +3,15 @@ use Rattle.command_words.specs.Words.{command_of}
 use Rattle.command_words.specs.declared.words.Command.{Command}
 use Rattle.fp_exits.specs.Kinds.{kinds_of}
 use Rattle.site_texts.specs.Texts.{ReadsOnce}
-use Rattle.fp_system.specs.Answers.{IsEarly}
+use Rattle.command_tasks.specs.Answers.{IsEarly, IsOfParts}
 use Rattle.fp_system.specs.Gives.{IsBeforeSite}
-use Rattle.fp_system.specs.Parts.{Job, front_for}
-use Rattle.fp_system.specs.declared.status.Status.TheVariants as status
+use Rattle.command_tasks.specs.Parts.{Job, front_for}
+use Rattle.command_tasks.specs.declared.status.Status.TheVariants as status
 use Rattle.fp_system.specs.inside.Acted.{given_of}
-use Rattle.fp_system.specs.inside.Answers.{IsOfParts}
-use Rattle.fp_system.specs.inside.Setups.{job_of}
+use Rattle.command_tasks.specs.Setups.{job_of}
 use Rattle.fp_system.proofs.Calls.{asks_for, in_order, order_kept, read_as, served_acted, served_memory, served_refused, served_usage, took_behind, took_nothing, took_parts}
-use Rattle.fp_system.proofs.CauseLemmas.{by_site, source_since}
-use Rattle.fp_system.proofs.Jobs.{no_word, one_job}
+use Rattle.command_tasks.proofs.CauseLemmas.{by_site, source_since}
+use Rattle.command_tasks.proofs.Jobs.{no_word, one_job}
 use Rattle.fp_system.proofs.SentTexts.{read_none}
 use Rattle.fp_system.proofs.commands.obey.Goals as goal
 

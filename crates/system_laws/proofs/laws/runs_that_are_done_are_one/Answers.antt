@@ -1,8 +1,8 @@
 use Rattle.fp_source.specs.declared.part.Part.TheVariants as part
 use Rattle.fp_model.specs.Machine.{at_rest}
-use Rattle.fp_system.specs.Parts.{rules_for}
+use Rattle.command_tasks.specs.Parts.{rules_for}
 use Rattle.system_laws.proofs.AnsweredLemmas.{defs_are, end}
-use Rattle.fp_system.proofs.Jobs.{none_for}
+use Rattle.command_tasks.proofs.Jobs.{none_for}
 use Rattle.system_laws.proofs.OneRun.{began, came, came_from, none_from, one_point}
 use Rattle.system_laws.proofs.laws.runs_that_are_done_are_one.Goals as goal
 

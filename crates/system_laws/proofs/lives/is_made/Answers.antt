@@ -1,6 +1,6 @@
 use Rattle.std.proofs.Common.{◌≡◌}
 use Rattle.memory_site.specs.Memory.{memory_disk}
-use Rattle.fp_system.specs.declared.status.Status.TheVariants as status
+use Rattle.command_tasks.specs.declared.status.Status.TheVariants as status
 use Rattle.system_laws.proofs.StopLemmas.{made_holds}
 use Rattle.system_laws.proofs.lives.is_made.Goals.{in-Done, in_default}
 use Rattle.system_laws.proofs.lives.is_made.Goals as goal
