@@ -1,7 +1,6 @@
 pub mod AnswerLemmas
-pub mod BeginLemmas
+mod MsdbLemmas
 pub mod ReadyLemmas
 pub mod StoreLemmas
 pub mod TargetLemmas
-pub mod WorkLemmas
 pub mod KnowLemmas

@@ -9,7 +9,7 @@ use Rattle.fp_model.specs.Calls.{Target, OnMsdb, OnDedb, Nowhere, database_of, t
 use Rattle.dedb_calls.specs.Calls.{FitsCallOn}
 use Rattle.fp_model.specs.FitCalls.{FitsTarget, IsMsdbCall, IsTied}
 use Rattle.dedb_calls.proofs.CallLemmas.{fits_on}
-use Rattle.dedb_calls.proofs.TargetLemmas.{NamesDedb, behind_msdbs, dedb_has, named_dedb, on_dedb, on_msdb}
+use Rattle.dedb_calls.proofs.TargetLemmas.{NamesDedb, behind_msdbs, dedb_has, named_dedb, on_msdb}
 use Rattle.dli_calls.specs.Progress.{Progress, dedbs_in}
 use Rattle.dli_calls.specs.Targets.{FitsWork, IfDedb, LeavesDedbs, LeavesOthers}
 use Rattle.plain_laws.proofs.Places.{beyond_none}

@@ -1,3 +1,4 @@
+pub mod Looks
 pub mod Progress
 pub mod Readiness
 pub mod Targets

@@ -3,42 +3,41 @@ ghost use Rattle.ci_locks.specs.Table.{standing};
 ghost use Rattle.dedb_calls.specs.Anchors.{Sees};
 ghost use Rattle.dedb_calls.specs.Calls.{FitsCallOn};
 ghost use Rattle.dedb_calls.specs.Progress.{GoesOn, Knows};
-ghost use Rattle.dli_calls.specs.Progress.{FitsPosition, IsWorkOf, dedbs_in};
-ghost use Rattle.segment_keys.specs.Keys.{is_among};
+ghost use Rattle.dli_calls.specs.Progress.{IsWorkOf, dedbs_in};
 ghost use Rattle.dli_calls.specs.Readiness.{IfAnswer, OnNeed, needed_in};
-ghost use Rattle.dli_calls.specs.inside.Readiness.{needed_exclusive, ready_in};
-ghost use Rattle.dli_calls.specs.inside.Replies.{IsDatabase, ShowsFound, is_changed, key_to_change, segments_in};
 ghost use Rattle.dli_calls.specs.Targets.{FitsWork, IfDedb, LeavesDedbs, LeavesMsdbs, LeavesOthers};
+ghost use Rattle.dli_calls.specs.Looks.{IsStored, segments_in};
+ghost use Rattle.dli_calls.specs.inside.Progress.{noted};
+ghost use Rattle.dli_calls.specs.inside.Readiness.{needed_exclusive, ready_in};
 ghost use Rattle.fp_exits.specs.Kinds.{has_kind, kinds_of};
 ghost use Rattle.fp_model.specs.Answers.{serves, unless_held};
 ghost use Rattle.fp_model.specs.Calls.{OnDedb, OnMsdb, database_of, looks_unheld, need_of, reply_to, target_of};
 ghost use Rattle.fp_model.specs.DedbCalls.{dedb_need, dedb_reply};
 ghost use Rattle.fp_model.specs.FitCalls.{FitsAnswerOf, FitsCall};
-ghost use Rattle.fp_model.specs.MsdbCalls.{exclusively, is_put_or_dropped, msdb_looks, msdb_need, msdb_reply, position_of};
+ghost use Rattle.fp_model.specs.MsdbCalls.{msdb_looks, msdb_need, msdb_reply};
 ghost use Rattle.fp_model.specs.WellFormed.{IsDedbDef, IsMsdbDef};
 ghost use Rattle.fp_model.specs.Workspace.{Workspace};
 ghost use Rattle.fp_model.specs.declared.calls.Mode.TheVariants.{Exclusive};
-ghost use Rattle.fp_model.specs.declared.calls.Resource.TheVariants.{Segment};
 ghost use Rattle.fp_model.specs.declared.database.Db.{Db as DbOf};
 ghost use Rattle.fp_model.specs.declared.definitions.DedbDef.{DedbDef as DedbOf};
-ghost use Rattle.fp_model.specs.declared.definitions.Defs.{Defs as DefsOf};
 ghost use Rattle.fp_model.specs.declared.definitions.MsdbDef.{MsdbDef as DefOf};
+ghost use Rattle.msdb_calls.specs.Calls.{is_changed};
+ghost use Rattle.msdb_calls.specs.Progress.{FitsMsdb, IsMsdbWorkOf, with_progress};
 ghost use Rattle.msdb_store.specs.Store.{IsOf};
 ghost use Rattle.std.specs.List.{AllByRecursion};
-ghost use Rattle.std.specs.Option.{option_copied, option_map, option_map_or};
-ghost use Rattle.std.specs.Prelude.{◌≡◌, ◌-◌, ◌<◌, ◌≤◌, ◌++◌, ◌∷◌, [], IfOk, List as ListOf, OnErr, Some, if◌then◌else◌, length, option_and_then, slice_get, true, ℕ};
+ghost use Rattle.std.specs.Option.{option_map, option_map_or};
+ghost use Rattle.std.specs.Prelude.{◌≡◌, ◌-◌, ◌<◌, ◌≤◌, ◌++◌, ◌∷◌, [], IfOk, List as ListOf, None, OnErr, OnOk, Some, if◌then◌else◌, length, slice_get, true, ℕ};
 
-use crate::database::{Database, key_in};
+use crate::notes::{put, take_back};
 use crate::region_locks::RegionLocks;
-use crate::reply::Reply;
-use crate::replying::key_named;
+use crate::stored_looks::StoredLooks;
 use crate::work::Work;
 use ci_locks::Locks;
 use dedb_calls::DedbReady;
 use fp_exits::Exits;
-use fp_model::{Answer, Bytes, Call, Defs, Get, Mode, Resource};
+use fp_model::{Answer, Bytes, Call, Defs, List, Mode, Resource};
+use msdb_calls::{Database, MsdbWork, database_of, looks};
 use msdb_store::MsdbStore;
-use segment_keys::SegmentKey;
 use std::alloc::{AllocError, Global};
 
 /// What a call comes to.
@@ -50,46 +49,7 @@ pub enum Ready {
     Need(Resource, Mode),
 }
 
-// The database that a call names.
-fn database_of(call: &Call) -> u8
-    ensures { result ≡ database_of call.now }
-{
-    match call {
-        Call::Get { db, .. }
-        | Call::Fld { db, .. }
-        | Call::Isrt { db, .. }
-        | Call::Repl { db, .. }
-        | Call::Dlet { db } => *db,
-    }
-}
-
-// The main storage database of a number.
-fn database_for<'a>(number: u8, msdbs: &'a MsdbStore, defs: &'a Defs) -> Database<'a>
-    requires { number < length defs.now.msdbs }
-    ensures number { result.number ≡ number }
-    ensures def { slice_get defs.now.msdbs result.number ≡ Some result.def.now }
-    ensures store { result.store.now ≡ msdbs.now }
-{
-    Database {
-        number,
-        def: &defs.msdbs.as_slice()[usize::from(number)],
-        store: msdbs,
-    }
-}
-
-// Whether a call looks without a hold.
-fn looks(call: &Call, changed: bool) -> bool
-    ensures { (def : DefOf) (msdb : ℕ) (own : Workspace) → is_changed def msdb own call.now ≡ changed
-        → result ≡ msdb_looks def msdb own call.now }
-{
-    match call {
-        Call::Get { get, hold, .. } => !hold && !matches!(get, Get::NextInParent),
-        Call::Fld { .. } => !changed,
-        Call::Isrt { .. } | Call::Repl { .. } | Call::Dlet { .. } => false,
-    }
-}
-
-// The note of a call that looks so.
+// The note of a call, where it looks without a hold.
 fn note(call: &Call, changed: bool, count: u64) -> Option<u64>
     ensures { (def : DefOf) (msdb : ℕ) (own : Workspace) → is_changed def msdb own call.now ≡ changed
         → result ≡ (if msdb_looks def msdb own call.now then Some count else None) }
@@ -111,129 +71,120 @@ fn is_held(locks: &Locks, region: u8, resource: &Resource) -> bool
     matches!(locks.holds(region, resource), Some(Mode::Exclusive))
 }
 
-impl Database<'_> {
-    // The key of the segment that a call is to change.
-    fn key_to_change<'a>(&self, work: &'a Work, call: &'a Call) -> Option<&'a [u8]>
-        requires { self.now.number < length work.now.own.msdbs }
-        ensures { option_copied result ≡ key_to_change self.now.def.now self.now.number work.now.own call.now }
-    {
-        match call {
-            Call::Get { .. } => None,
-            Call::Fld { key, .. } => Some(key.as_slice()),
-            Call::Isrt { bytes, .. } => Some(key_in(self.def, bytes.as_slice())),
-            Call::Repl { .. } | Call::Dlet { .. } => work.position(self.number).held_key(),
+// The key that a call has to hold Exclusive, as a resource, unless the region holds it. Fails only for want of memory.
+fn need(
+    alloc: Global,
+    database: &Database<'_>,
+    locks: &Locks,
+    region: u8,
+    call: &Call,
+    changed: bool,
+) -> Result<Option<Resource>, AllocError>
+    requires some { 1 ≤ region }
+    requires within { region ≤ length locks.now }
+
+    ensures { (own : Workspace) → is_changed database.now.def.now database.now.number own call.now ≡ changed
+        → IfOk result (λ resource. option_map needed_exclusive resource
+        ≡ option_map_or (unless_held ((standing locks.now).holds region))
+        (msdb_need database.now.def.now database.now.number own call.now) None) }
+{
+    let Some(key) = database.needed_key(call, changed) else {
+        return Ok(None);
+    };
+    let resource = Resource::Segment {
+        msdb: database.number,
+        key: Bytes::from_slice(alloc, key)?,
+    };
+    if is_held(locks, region, &resource) {
+        return Ok(None);
+    }
+    Ok(Some(resource))
+}
+
+// Answers a call that needs no more locks, and makes its note. It fails only for want of memory, and then nothing
+// changes.
+fn answer_noted(
+    alloc: Global,
+    msdbs: &mut MsdbWork,
+    notes: &mut List<u64>,
+    database: &Database<'_>,
+    call: &Call,
+    changed: bool,
+    looks: &StoredLooks<'_>,
+    note: Option<u64>,
+) -> Result<Answer, AllocError>
+    requires good { IsMsdbDef database.now.def.now }
+    requires stored { IsStored looks.now.msdbs.now looks.now.number database.now.def.now }
+    requires call { FitsCall call.now database.now.def.now }
+    requires work { FitsMsdb database.now.def.now database.now.number msdbs.old }
+    requires changed { (own : Workspace)
+        → is_changed database.now.def.now database.now.number (with_progress msdbs.old own) call.now ≡ changed }
+
+    ensures answer { IfOk result (λ answer. (own : Workspace)
+        → msdb_reply database.now.def.now database.now.number (segments_in looks.now.msdbs.now looks.now.number)
+        (segments_in looks.now.msdbs.now looks.now.number) (with_progress msdbs.old own) call.now
+        ≡ record { answer = answer; own = with_progress msdbs.new own }) }
+    ensures shown { IfOk result (FitsAnswerOf (OnMsdb database.now.def.now database.now.number) call.now) }
+    ensures of { (defs : ListOf DefOf) → slice_get defs database.now.number ≡ Some database.now.def.now
+        → IsMsdbWorkOf defs msdbs.old → IsMsdbWorkOf defs msdbs.new }
+    ensures notes { OnOk result (notes.new ≡ noted note notes.old) }
+    ensures err { OnErr result (msdbs.new ≡ msdbs.old) }
+    ensures unnoted { OnErr result (notes.new ≡ notes.old) }
+{
+    put(notes, note)?;
+    match database.answer(alloc, msdbs, call, changed, looks) {
+        Ok(answer) => Ok(answer),
+        Err(error) => {
+            take_back(notes, note);
+            Err(error)
         }
     }
+}
 
-    // Whether the queue inserts or deletes that segment. It fails only for want of memory.
-    fn is_changed(&self, alloc: Global, work: &Work, call: &Call) -> Result<bool, AllocError>
-        requires positions { self.now.number < length work.now.own.msdbs }
-        requires changes { (key : ListOf ℕ) → is_among work.now.changed (Segment self.now.number key)
-            ≡ is_put_or_dropped self.now.def.now self.now.number work.now.own key }
-        ensures { IfOk result (λ changed. is_changed self.now.def.now self.now.number work.now.own call.now ≡ changed) }
-    {
-        let Some(key) = self.key_to_change(work, call) else {
-            return Ok(false);
-        };
-        if work.changes_none() {
-            return Ok(false);
-        }
-        let key = SegmentKey::new(alloc, self.number, key)?;
-        Ok(work.changes(&key))
+// What a call to a main storage database comes to. It fails only for want of memory; then, and where a lock is needed,
+// nothing changes.
+fn ready_msdb(
+    alloc: Global,
+    msdbs: &mut MsdbWork,
+    notes: &mut List<u64>,
+    database: &Database<'_>,
+    call: &Call,
+    looks: &StoredLooks<'_>,
+    locks: &Locks,
+    region: u8,
+    count: u64,
+) -> Result<Ready, AllocError>
+    requires good { IsMsdbDef database.now.def.now }
+    requires stored { IsStored looks.now.msdbs.now looks.now.number database.now.def.now }
+    requires call { FitsCall call.now database.now.def.now }
+    requires work { FitsMsdb database.now.def.now database.now.number msdbs.old }
+    requires some { 1 ≤ region }
+    requires within { region ≤ length locks.now }
+
+    ensures need { (own : Workspace) → IfOk result (λ ready. needed_in ready
+        ≡ option_map_or (unless_held ((standing locks.now).holds region))
+        (msdb_need database.now.def.now database.now.number (with_progress msdbs.old own) call.now) None) }
+    ensures answer { (own : Workspace) → IfOk result (λ ready. IfAnswer ready (λ answer.
+        msdb_reply database.now.def.now database.now.number (segments_in looks.now.msdbs.now looks.now.number)
+        (segments_in looks.now.msdbs.now looks.now.number) (with_progress msdbs.old own) call.now
+        ≡ record { answer = answer; own = with_progress msdbs.new own })) }
+    ensures notes { (own : Workspace) → IfOk result (λ ready. IfAnswer ready (λ answer. notes.new
+        ≡ (if msdb_looks database.now.def.now database.now.number (with_progress msdbs.old own) call.now
+        then notes.old ++ count ∷ [] else notes.old))) }
+    ensures shown { IfOk result (λ ready. IfAnswer ready
+        (FitsAnswerOf (OnMsdb database.now.def.now database.now.number) call.now)) }
+    ensures of { (defs : ListOf DefOf) → slice_get defs database.now.number ≡ Some database.now.def.now
+        → IsMsdbWorkOf defs msdbs.old → IsMsdbWorkOf defs msdbs.new }
+    ensures needing { IfOk result (λ ready. OnNeed ready ((msdbs.new ≡ msdbs.old) × (notes.new ≡ notes.old))) }
+    ensures err { OnErr result ((msdbs.new ≡ msdbs.old) × (notes.new ≡ notes.old)) }
+{
+    let changed = database.is_changed(alloc, msdbs, call)?;
+    if let Some(resource) = need(alloc, database, locks, region, call, changed)? {
+        return Ok(Ready::Need(resource, Mode::Exclusive));
     }
-
-    // The key that a call has to hold Exclusive.
-    fn needed_key<'a>(&self, call: &'a Call, changed: bool) -> Option<&'a [u8]>
-        ensures { (own : Workspace) → is_changed self.now.def.now self.now.number own call.now ≡ changed
-            → option_and_then (exclusively self.now.def.now self.now.number) (option_copied result) ≡ msdb_need
-            self.now.def.now self.now.number own call.now }
-    {
-        match call {
-            Call::Get {
-                get: Get::Unique,
-                hold: true,
-                ssas,
-                ..
-            } => key_named(ssas),
-            Call::Isrt { bytes, .. } if self.def.dynamic && !changed => {
-                Some(key_in(self.def, bytes.as_slice()))
-            }
-            _ => None,
-        }
-    }
-
-    // That key as a resource, unless the region holds it. It fails only for want of memory.
-    fn need(
-        &self,
-        alloc: Global,
-        locks: &Locks,
-        region: u8,
-        call: &Call,
-        changed: bool,
-    ) -> Result<Option<Resource>, AllocError>
-        requires some { 1 ≤ region }
-        requires within { region ≤ length locks.now }
-
-        ensures { (own : Workspace) → is_changed self.now.def.now self.now.number own call.now ≡ changed
-            → IfOk result (λ resource. option_map needed_exclusive resource
-            ≡ option_map_or (unless_held ((standing locks.now).holds region))
-            (msdb_need self.now.def.now self.now.number own call.now) None) }
-    {
-        let Some(key) = self.needed_key(call, changed) else {
-            return Ok(None);
-        };
-        let resource = Resource::Segment {
-            msdb: self.number,
-            key: Bytes::from_slice(alloc, key)?,
-        };
-        if is_held(locks, region, &resource) {
-            return Ok(None);
-        }
-        Ok(Some(resource))
-    }
-
-    // What a call comes to. It fails only for want of memory; then, and where a lock is needed, nothing changes.
-    fn ready(
-        &self,
-        alloc: Global,
-        work: &mut Work,
-        call: &Call,
-        locks: &Locks,
-        region: u8,
-        count: u64,
-    ) -> Result<Ready, AllocError>
-        requires database { IsDatabase self.now }
-        requires some { 1 ≤ region }
-        requires within { region ≤ length locks.now }
-        requires call { FitsCall call.now self.now.def.now }
-        requires positions { self.now.number < length work.old.own.msdbs }
-        requires position { FitsPosition self.now.def.now (position_of self.now.def.now self.now.number work.old.own) }
-        requires changes { (key : ListOf ℕ) → is_among work.old.changed (Segment self.now.number key)
-            ≡ is_put_or_dropped self.now.def.now self.now.number work.old.own key }
-        ensures need { IfOk result (λ ready. needed_in ready
-            ≡ option_map_or (unless_held ((standing locks.now).holds region))
-            (msdb_need self.now.def.now self.now.number work.old.own call.now) None) }
-        ensures answer { IfOk result (λ ready. IfAnswer ready (λ answer.
-            msdb_reply self.now.def.now self.now.number (segments_in self.now) (segments_in self.now) work.old.own
-            call.now ≡ record { answer = answer; own = work.new.own })) }
-        ensures notes { IfOk result (λ ready. IfAnswer ready (λ answer. work.new.notes
-            ≡ (if msdb_looks self.now.def.now self.now.number work.old.own call.now then work.old.notes ++ count ∷ []
-            else work.old.notes))) }
-        ensures shown { IfOk result (λ ready. IfAnswer ready (ShowsFound self.now.def.now call.now)) }
-        ensures leaves { LeavesDedbs work.old work.new }
-        ensures of { (defs : DefsOf) → slice_get defs.msdbs self.now.number ≡ Some self.now.def.now
-            → IsWorkOf defs work.old → IsWorkOf defs work.new }
-        ensures needing { IfOk result (λ ready. OnNeed ready (work.new ≡ work.old)) }
-        ensures err { OnErr result (work.new ≡ work.old) }
-    {
-        let changed = self.is_changed(alloc, work, call)?;
-        if let Some(resource) = self.need(alloc, locks, region, call, changed)? {
-            return Ok(Ready::Need(resource, Mode::Exclusive));
-        }
-        let Reply { answer, change } = self.reply(alloc, work, call, changed)?;
-        work.settle(self.def, self.number, change, note(call, changed, count))?;
-        Ok(Ready::Answer(answer))
-    }
+    let note = note(call, changed, count);
+    let answer = answer_noted(alloc, msdbs, notes, database, call, changed, looks, note)?;
+    Ok(Ready::Answer(answer))
 }
 
 // Answers a call to the main storage database of this number.
@@ -273,8 +224,19 @@ fn answer_msdb(
     ensures needing { IfOk result (λ ready. OnNeed ready (work.new ≡ work.old)) }
     ensures err { OnErr result (work.new ≡ work.old) }
 {
-    let database = database_for(number, msdbs, defs);
-    database.ready(alloc, work, call, locks, region, count)
+    let database = Database::of(number, defs);
+    let looks = StoredLooks { number, msdbs };
+    ready_msdb(
+        alloc,
+        &mut work.msdbs,
+        &mut work.notes,
+        &database,
+        call,
+        &looks,
+        locks,
+        region,
+        count,
+    )
 }
 
 // What a call to the data entry database of this number comes to.

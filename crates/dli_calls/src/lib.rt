@@ -4,11 +4,9 @@
 #![tactic(auto)]
 
 mod answering;
-mod database;
-mod letters;
+mod notes;
 mod region_locks;
-mod reply;
-mod replying;
+mod stored_looks;
 mod work;
 
 pub use answering::{Ready, answer};

@@ -1,9 +1,7 @@
 mod AloneLemmas
-mod AnswerLemmas
-mod BeginLemmas
 pub mod HandLemmas
+mod MsdbLemmas
 mod NeedLemmas
 mod PastLemmas
 mod ReadyLemmas
 pub mod TargetLemmas
-mod WorkLemmas

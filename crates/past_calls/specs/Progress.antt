@@ -1,17 +1,18 @@
 -- What contracts see of a transaction under way.
-use Rattle.std.specs.Prelude.{ℕ, ◌≡◌, List, Some, IfSome, slice_get}
+use Rattle.std.specs.Prelude.{ℕ, ◌≡◌, List, Some, slice_get}
 use Rattle.std.specs.List.{AllByRecursion, AllZip}
 use Rattle.fp_model.specs.declared.definitions.Defs.{Defs}
 use Rattle.fp_model.specs.declared.definitions.MsdbDef.{MsdbDef}
 use Rattle.fp_model.specs.declared.calls.Resource.{Resource}
 use Rattle.fp_model.specs.declared.calls.Resource.TheVariants.{Segment}
-use Rattle.fp_model.specs.FitCalls.{FitsKey, IsFitDeferred}
+use Rattle.fp_model.specs.FitCalls.{IsFitDeferred}
 use Rattle.fp_model.specs.MsdbCalls.{is_put_or_dropped}
-use Rattle.fp_model.specs.Workspace.{MsdbPosition, Workspace}
+use Rattle.fp_model.specs.Workspace.{Workspace}
 use Rattle.segment_keys.specs.Keys.{is_among}
 use Rattle.dedb_calls.specs.Anchors.{changes_in}
 use Rattle.dedb_calls.specs.Progress.{DedbProgress, IsDedbWorkOf}
 use Rattle.dedb_calls.specs.declared.anchors.HeldAnchor.{HeldAnchor}
+use Rattle.msdb_calls.specs.Progress.{FitsPosition}
 
 -- What it keeps to itself, the anchors whose roots it has, as it sees them, and the keys of main storage databases
 -- whose segments its queue inserts or deletes.
@@ -23,10 +24,6 @@ pub record Progress : Type 0 where
 -- as far as it has to do with data entry databases
 abbrev pub dedbs_in : Progress → DedbProgress
 dedbs_in work = record { positions = work.own.dedbs; anchors = work.anchors; inserts = work.own.inserts }
-
--- the segment found last has a key of the database's length
-abbrev pub FitsPosition : MsdbDef → MsdbPosition → Type 0
-FitsPosition def position = IfSome position.key (λ key. FitsKey key def)
 
 -- It is a transaction's under these definitions: a position for each main storage database, deferred calls as fit calls
 -- leave them, the keys that those insert or delete, what it keeps of data entry databases, and the changes of the

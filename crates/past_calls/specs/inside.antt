@@ -1,3 +1,2 @@
 pub mod Needs
 pub mod Readiness
-pub mod Replies

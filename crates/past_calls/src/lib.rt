@@ -4,12 +4,9 @@
 
 mod anchor_roots;
 mod answering;
-mod database;
 mod held_alone;
-mod letters;
 mod on_roots;
-mod reply;
-mod replying;
+mod placed_looks;
 mod work;
 
 pub use anchor_roots::AnchorRoots;

@@ -1,89 +1,29 @@
-//! What a transaction keeps until it commits.
-ghost use Rattle.std.specs.Option.{option_copied, option_map};
-ghost use Rattle.std.specs.Prelude.{◌≡◌, ◌<◌, ◌++◌, ◌∷◌, ◌||◌, ◌&&◌, ◌==◌, [], IfOk, IsOk, IsTrue, List as ListOf, None, OnErr, OnOk, if◌then◌else◌, is_some, length, slice_get, slice_set, true, unwrap_or, ℕ, false, Some};
+//! What a transaction keeps until its end.
+ghost use Rattle.std.specs.Option.{option_map};
+ghost use Rattle.std.specs.Prelude.{◌≡◌, ◌<◌, ◌&&◌, ◌==◌, [], IfOk, IsOk, None, OnErr, OnOk, Some, false, is_some, length, slice_get, true, ℕ};
 ghost use Rattle.dedb_calls.specs.Anchors.{Ascend, Sees, held_at};
 ghost use Rattle.dedb_calls.specs.Progress.{held_in};
 ghost use Rattle.dli_tree.specs.InOrder.{any_ends};
 ghost use Rattle.fp_model.specs.DedbCalls.{type_of_path};
 ghost use Rattle.fp_model.specs.Shape.{is_anchor};
 ghost use Rattle.fp_model.specs.State.{roots_at};
-ghost use Rattle.fp_model.specs.Workspace.{fresh, no_msdb_position};
-ghost use Rattle.fp_model.specs.declared.calls.Resource.{Resource as ResourceOf};
+ghost use Rattle.fp_model.specs.Workspace.{fresh};
 ghost use Rattle.fp_model.specs.declared.database.Db.{Db as DbOf};
 ghost use Rattle.fp_model.specs.declared.definitions.DedbDef.{DedbDef as DedbOf};
 ghost use Rattle.fp_model.specs.declared.definitions.Defs.{Defs as DefsOf};
-ghost use Rattle.segment_keys.specs.Keys.{resource_of};
 ghost use Rattle.past_calls.specs.Progress.{IsWorkOf, dedbs_in};
-ghost use Rattle.segment_keys.specs.Keys.{is_among};
-ghost use Rattle.past_calls.specs.inside.Replies.{mark_in, mark_of, own_behind};
-ghost use Rattle.segment_keys.specs.Keys.{is_marked};
 
-use crate::database::key_in;
-use crate::reply::Change;
 use dedb_calls::DedbWork;
-use fp_model::{AnchorChange, Bytes, Deferred, Defs, List, MsdbDef, Root, SeqInsert};
-use segment_keys::{Keys, SegmentKey};
+use fp_model::{AnchorChange, Deferred, Defs, List, Root, SeqInsert};
+use msdb_calls::MsdbWork;
 use std::alloc::{AllocError, Global};
 use std::marker::Model;
-
-// Of one main storage database: the key of the segment found last, and whether the last call to the database was a
-// hold get that found it.
-#[derive(Drop)]
-pub(crate) struct Position {
-    key: Option<Bytes>,
-    held: bool,
-}
-
-impl Model for Position {
-    ghost use Rattle.fp_model.specs.Workspace.{MsdbPosition};
-
-    ghost Value = { MsdbPosition };
-
-    ghost view = { λ p. record { key = p.key; held = p.held } };
-}
-
-impl Position {
-    fn new() -> Position
-        ensures { result ≡ no_msdb_position }
-    {
-        Position {
-            key: None,
-            held: false,
-        }
-    }
-
-    pub(crate) fn key(&self) -> Option<&[u8]>
-        ensures { option_copied result ≡ self.now.key }
-    {
-        match &self.key {
-            Some(key) => Some(key.as_slice()),
-            None => None,
-        }
-    }
-
-    // The key of the segment that is held.
-    pub(crate) fn held_key(&self) -> Option<&[u8]>
-        ensures { option_copied result ≡ (if self.now.held then self.now.key else None) }
-    {
-        if self.held { self.key() } else { None }
-    }
-}
-
-// Without its last element.
-fn drop_last<T: Drop>(list: &mut List<T>)
-    ensures { (front : ListOf T) (last : T) → list.old ≡ front ++ last ∷ [] → list.new ≡ front }
-{
-    let _ = list.pop();
-}
 
 /// What one transaction keeps to itself until its end: its positions, its deferred calls, the anchors whose roots it
 /// has, as it sees them, and its sequential inserts.
 #[derive(Drop)]
 pub struct Work {
-    positions: Vec<Position>,
-    // Those whose segments the queue inserts or deletes.
-    changed: Keys,
-    deferred: List<Deferred>,
+    pub(crate) msdbs: MsdbWork,
     pub(crate) dedbs: DedbWork,
 }
 
@@ -110,14 +50,14 @@ impl Model for Work {
 
     ghost view = { λ w. record {
       own = record {
-        msdbs = w.positions.items;
+        msdbs = w.msdbs.positions;
         dedbs = w.dedbs.positions;
         changes = changes_in w.dedbs.anchors;
-        deferred = w.deferred;
+        deferred = w.msdbs.deferred;
         inserts = w.dedbs.inserts;
       };
       anchors = w.dedbs.anchors;
-      changed = w.changed;
+      changed = w.msdbs.changed;
     } };
 }
 
@@ -128,17 +68,9 @@ impl Work {
         ensures own { IfOk result (λ work. work.own ≡ fresh defs.now) }
         ensures anchors { IfOk result (λ work. work.anchors ≡ []) }
     {
+        let msdbs = MsdbWork::new(alloc, defs)?;
         let dedbs = DedbWork::new(alloc, defs)?;
-        let mut positions = Vec::new(alloc);
-        for _ in 0..defs.msdbs.len() {
-            positions.push(Position::new())?;
-        }
-        Ok(Work {
-            positions,
-            changed: Keys::new(alloc),
-            deferred: List::new(alloc),
-            dedbs,
-        })
+        Ok(Work { msdbs, dedbs })
     }
 
     /// Hands it the roots of an anchor that it lacks, as they stand in the database. Where it has roots of the anchor
@@ -192,7 +124,7 @@ impl Work {
     pub fn deferred(&self) -> &List<Deferred>
         ensures { result.now ≡ self.now.own.deferred }
     {
-        &self.deferred
+        self.msdbs.deferred()
     }
 
     /// What its sync point is to settle. It is handed on, and not copied. It fails only for want of memory.
@@ -201,133 +133,12 @@ impl Work {
         ensures changes { IfOk result (λ parts. parts.changes ≡ self.own.changes) }
         ensures inserts { IfOk result (λ parts. parts.inserts ≡ self.own.inserts) }
     {
-        let Work {
-            positions: _,
-            changed: _,
-            deferred,
-            dedbs,
-        } = self;
+        let Work { msdbs, dedbs } = self;
         let (changes, inserts) = dedbs.into_parts(alloc)?;
         Ok(Parts {
-            deferred,
+            deferred: msdbs.into_deferred(),
             changes,
             inserts,
         })
-    }
-
-    // The position in a database.
-    pub(crate) fn position(&self, msdb: u8) -> &Position
-        requires { msdb < length self.now.own.msdbs }
-        ensures { slice_get self.now.own.msdbs msdb ≡ Some result.now }
-    {
-        &self.positions[msdb as usize]
-    }
-
-    // Whether its queue inserts and deletes no segment.
-    pub(crate) fn changes_none(&self) -> bool
-        ensures { IsTrue result → (resource : ResourceOf) → is_among self.now.changed resource ≡ false }
-    {
-        self.changed.is_empty()
-    }
-
-    // Whether its queue inserts or deletes the segment of a key.
-    pub(crate) fn changes(&self, key: &SegmentKey) -> bool
-        ensures { result ≡ is_among self.now.changed (resource_of key.now) }
-    {
-        self.changed.has(key)
-    }
-
-    // What becomes of it behind an answer. It fails only for want of memory, and then nothing changes.
-    pub(crate) fn settle(
-        &mut self,
-        def: &MsdbDef,
-        msdb: u8,
-        change: Change,
-    ) -> Result<(), AllocError>
-        requires { msdb < length self.old.own.msdbs }
-        ensures own { OnOk result (self.new.own ≡ own_behind def.now msdb change self.old.own) }
-        ensures anchors { self.new.anchors ≡ self.old.anchors }
-        ensures changed { OnOk result ((resource : ResourceOf)
-            → is_among self.new.changed resource ≡ (is_marked (mark_in def.now change) resource || is_among
-            self.old.changed resource)) }
-        ensures err { OnErr result (self.new ≡ self.old) }
-    {
-        match change {
-            Change::Nothing => self.let_go(msdb),
-            Change::Found { key, hold } => self.find(msdb, key, hold),
-            Change::Queued(deferred) => {
-                self.queue(def, deferred)?;
-                self.let_go(msdb);
-            }
-        }
-        Ok(())
-    }
-
-    // Holds no segment of the database.
-    fn let_go(&mut self, msdb: u8)
-        requires { msdb < length self.old.own.msdbs }
-        ensures { self.new ≡ record self.old {
-          own = record self.old.own {
-            msdbs = slice_set self.old.own.msdbs msdb
-                (record (unwrap_or (slice_get self.old.own.msdbs msdb) no_msdb_position) { held = false });
-          };
-        } }
-    {
-        self.positions[msdb as usize].held = false;
-    }
-
-    // Is at a segment, and holds it or not.
-    fn find(&mut self, msdb: u8, key: Bytes, hold: bool)
-        requires { msdb < length self.old.own.msdbs }
-        ensures { self.new ≡ record self.old {
-          own =
-              record self.old.own {
-                msdbs = slice_set self.old.own.msdbs msdb
-                    (record { key = Some key; held = hold });
-              };
-        } }
-    {
-        self.positions[msdb as usize] = Position {
-            key: Some(key),
-            held: hold,
-        };
-    }
-
-    // Puts a call at the end of the queue, and marks the key whose segment it inserts or deletes.
-    fn queue(&mut self, def: &MsdbDef, deferred: Deferred) -> Result<(), AllocError>
-        ensures own { OnOk result (self.new.own ≡ record self.old.own
-            { deferred = self.old.own.deferred ++ deferred ∷ [] }) }
-        ensures anchors { self.new.anchors ≡ self.old.anchors }
-        ensures changed { OnOk result ((resource : ResourceOf)
-            → is_among self.new.changed resource ≡ (is_marked (mark_of def.now deferred) resource || is_among
-            self.old.changed resource)) }
-        ensures err { OnErr result (self.new ≡ self.old) }
-    {
-        let mark = marked_by(*self.positions.allocator(), def, &deferred)?;
-        self.deferred.push(deferred)?;
-        if let Err(error) = self.changed.put_some(mark) {
-            drop_last(&mut self.deferred);
-            return Err(error);
-        }
-        Ok(())
-    }
-}
-
-// The key whose segment a deferred call inserts or deletes.
-fn marked_by(
-    alloc: Global,
-    def: &MsdbDef,
-    deferred: &Deferred,
-) -> Result<Option<SegmentKey>, AllocError>
-    ensures { IfOk result (λ mark. option_map resource_of mark ≡ mark_of def.now deferred.now) }
-{
-    match deferred {
-        Deferred::Isrt { msdb, bytes } => Ok(Some(SegmentKey::new(
-            alloc,
-            *msdb,
-            key_in(def, bytes.as_slice()),
-        )?)),
-        Deferred::Dlet { msdb, key } => { Ok(Some(SegmentKey::new(alloc, *msdb, key.as_slice())?)) }
-        Deferred::Fld { .. } | Deferred::Repl { .. } => Ok(None),
     }
 }

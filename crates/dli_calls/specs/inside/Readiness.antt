@@ -1,6 +1,5 @@
 -- What bodies and proofs need of Readiness, beside what contracts say.
 use Rattle.std.specs.Prelude.{ℕ}
-use Rattle.fp_model.specs.declared.calls.Answer.{Answer}
 use Rattle.fp_model.specs.declared.calls.Mode.TheVariants.{Exclusive}
 use Rattle.fp_model.specs.declared.calls.Resource.{Resource}
 use Rattle.fp_model.specs.declared.calls.Resource.TheVariants.{Anchor}

@@ -1,6 +1,5 @@
 -- What bodies and proofs need of Readiness, beside what contracts say.
 use Rattle.std.specs.Prelude.{ℕ}
-use Rattle.fp_model.specs.declared.calls.Answer.{Answer}
 use Rattle.dedb_calls.specs.declared.ready.DedbReady.{DedbReady}
 use Rattle.dedb_calls.specs.declared.ready.DedbReady.TheVariants as dedb
 use Rattle.past_calls.specs.declared.answering.Ready.{Ready}

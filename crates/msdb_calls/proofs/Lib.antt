@@ -1,0 +1,4 @@
+pub mod AnswerLemmas
+pub mod BeginLemmas
+pub mod LookLemmas
+pub mod WorkLemmas
