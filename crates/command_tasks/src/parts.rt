@@ -282,6 +282,7 @@ fn read_rest<S: Source>(
     requires setup { IsSetup setup.now }
     ensures ok { S.told source.old → IfOk result (λ events.
         HasEventsFor command (job_of setup.now) (S.left source.old) events) }
+    ensures none { (command ≡ commands.Run → ⊥) → IfOk result (λ events. events ≡ []) }
     ensures events { IfOk result (λ events. AllByRecursion (IsEventOf setup.now.defs) events) }
     ensures refused { S.told source.old → IfErr result (λ answer. MayStandIn answer
         ⊎ IsRefusedSchedule command (job_of setup.now) (S.left source.old) answer) }
@@ -313,6 +314,9 @@ pub fn read_task<S: Source>(
     ensures setup { IfOk result (λ task. IsSetup task.setup) }
     ensures router { IfOk result (λ task. has_kind (kinds_of exits.now).routers task.setup.defs.router ≡ true) }
     ensures events { IfOk result (λ task. AllByRecursion (IsEventOf task.setup.defs) task.events) }
+
+    // A command that takes no schedule has no events.
+    ensures no_events { (command ≡ commands.Run → ⊥) → IfOk result (λ task. task.events ≡ []) }
 
     // Otherwise it is the first reason why the parts aren't what the command asks for.
     ensures refused { S.told source.old → IfErr result

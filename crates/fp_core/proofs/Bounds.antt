@@ -11,8 +11,8 @@ use Rattle.drain_laws.proofs.Rounds.{relined}
 use Rattle.fp_model.specs.declared.definitions.Defs.{Defs}
 use Rattle.fp_model.specs.Machine.{Active, Idle, Machine, Region}
 use Rattle.fp_model.specs.Rules.{Rules}
-use Rattle.fp_source.specs.Lines.{lines_given}
-use Rattle.fp_source.specs.declared.lines.Lines.{Lines}
+use Rattle.message_lines.specs.Lines.{lines_given}
+use Rattle.message_lines.specs.declared.lines.Lines.{Lines}
 use Rattle.fp_core.specs.declared.engine.Engine.{Engine}
 use Rattle.fp_core.specs.Draining.{IsReachedBy}
 use Rattle.fp_core.specs.Relation.{StandsFor, rules_in}

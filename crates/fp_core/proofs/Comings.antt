@@ -16,8 +16,8 @@ use Rattle.fp_model.proofs.FrameLemmas.{turn_keeps}
 use Rattle.fp_site.specs.Disk.{Disk, IsLawful, Snapshot}
 use Rattle.fp_site.specs.Moments.{Through}
 use Rattle.fp_site.proofs.Runs.{joined, started, weaker}
-use Rattle.fp_source.specs.Lines.{lines_ahead, lines_given}
-use Rattle.fp_source.specs.declared.lines.Lines.{Lines}
+use Rattle.message_lines.specs.Lines.{lines_ahead, lines_given}
+use Rattle.message_lines.specs.declared.lines.Lines.{Lines}
 use Rattle.fp_core.specs.declared.did.Did.{Did}
 use Rattle.fp_core.specs.declared.engine.Engine.{Engine}
 use Rattle.fp_core.specs.declared.stop.Stop.{Stop}

@@ -16,6 +16,7 @@ pub mod Readings
 pub mod Tells
 pub mod Seals
 pub mod Leavings
+pub mod RoomLemmas
 pub mod SparingLemmas
 pub mod FrontLemmas
 pub mod StopLemmas

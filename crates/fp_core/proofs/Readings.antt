@@ -27,8 +27,8 @@ use Rattle.fp_model.specs.Messages.{message_of, terminal_of}
 use Rattle.fp_model.specs.Product.{groups_defined, request_of}
 use Rattle.fp_model.specs.Rules.{Rules}
 use Rattle.fp_model.specs.Turns.{NoFault}
-use Rattle.fp_source.specs.Lines.{lines_ahead, lines_given}
-use Rattle.fp_source.specs.declared.lines.Lines.{Lines}
+use Rattle.message_lines.specs.Lines.{lines_ahead, lines_given}
+use Rattle.message_lines.specs.declared.lines.Lines.{Lines}
 use Rattle.log_groups.specs.Log.{LogState}
 use Rattle.serial_order.specs.Laws.{IsRefusal}
 use Rattle.fp_core.specs.declared.asking.Demand.TheVariants as demand

@@ -13,8 +13,8 @@ use Rattle.fp_model.specs.Runs.{IsDrained, RunStep, Runs, device_faults, is_devi
 use Rattle.fp_model.specs.State.{numbers_up}
 use Rattle.fp_model.specs.Turns.{Environment, NoFault, DeviceFault, OutOfMemory, Turn}
 use Rattle.fp_model.proofs.FrameLemmas.{turn_keeps}
-use Rattle.fp_source.specs.Lines.{lines_given}
-use Rattle.fp_source.specs.declared.lines.Lines.{Lines}
+use Rattle.message_lines.specs.Lines.{lines_given}
+use Rattle.message_lines.specs.declared.lines.Lines.{Lines}
 use Rattle.fp_core.specs.declared.did.Did.{Did}
 use Rattle.fp_core.specs.declared.engine.Engine.{Engine}
 use Rattle.fp_core.specs.Draining.{AreCalm}

@@ -11,8 +11,8 @@ use Rattle.fp_model.proofs.FrameLemmas.{turn_keeps}
 use Rattle.fp_site.specs.Disk.{Disk, IsLawful}
 use Rattle.fp_site.proofs.Images.{durable_settles}
 use Rattle.fp_site.proofs.Runs.{started}
-use Rattle.fp_source.specs.Lines.{lines_ahead, lines_given}
-use Rattle.fp_source.specs.declared.lines.Lines.{Lines}
+use Rattle.message_lines.specs.Lines.{lines_ahead, lines_given}
+use Rattle.message_lines.specs.declared.lines.Lines.{Lines}
 use Rattle.log_groups.specs.Images.{IsAtRest, IsLog}
 use Rattle.fp_core.specs.declared.did.Did.{Did}
 use Rattle.fp_core.specs.declared.did.Did.TheVariants as did

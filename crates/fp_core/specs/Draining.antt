@@ -11,8 +11,8 @@ use Rattle.fp_model.specs.Machine.{Idle, Machine, region_at}
 use Rattle.fp_model.specs.Rules.{Rules}
 use Rattle.fp_model.specs.Runs.{RunStep, TakesOf, Runs, IsDrained, device_faults, round, Drains}
 use Rattle.fp_site.specs.Disk.{Disk, IsDurable, Snapshot}
-use Rattle.fp_source.specs.Lines.{lines_given}
-use Rattle.fp_source.specs.declared.lines.Lines.{Lines}
+use Rattle.message_lines.specs.Lines.{lines_given}
+use Rattle.message_lines.specs.declared.lines.Lines.{Lines}
 use Rattle.fp_core.specs.declared.engine.Engine.{Engine}
 use Rattle.fp_core.specs.declared.stop.Stop.{Stop}
 use Rattle.fp_core.specs.declared.stop.Stop.TheVariants as stops

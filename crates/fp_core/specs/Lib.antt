@@ -1,6 +1,7 @@
 pub mod Relation
 pub mod Turning
 pub mod Standing
+pub mod Rooms
 pub mod Sparing
 pub mod Fronts
 pub mod Draining

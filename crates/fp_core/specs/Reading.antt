@@ -1,6 +1,6 @@
 -- What IN reads: what a line asks for, and why none is read.
-use Rattle.fp_source.specs.declared.lines.LineFault.{LineFault}
-use Rattle.fp_source.specs.declared.lines.LineFault.TheVariants as fault
+use Rattle.message_lines.specs.declared.lines.LineFault.{LineFault}
+use Rattle.message_lines.specs.declared.lines.LineFault.TheVariants as fault
 use Rattle.fp_core.specs.declared.stop.Stop.{Stop}
 use Rattle.fp_core.specs.declared.stop.Stop.TheVariants as stop
 

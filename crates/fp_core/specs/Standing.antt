@@ -10,9 +10,9 @@ use Rattle.fp_model.specs.Messages.{LineFault, LineTooLong, TooManyLines}
 use Rattle.fp_model.specs.Rules.{Rules}
 use Rattle.fp_site.specs.Disk.{Disk, Snapshot, Settles}
 use Rattle.fp_site.specs.Moments.{Through}
-use Rattle.fp_source.specs.Lines.{lines_ahead, lines_given}
+use Rattle.message_lines.specs.Lines.{lines_ahead, lines_given}
 use Rattle.fp_lists.specs.Faults.{Rose}
-use Rattle.fp_source.specs.declared.lines.Lines.{Lines}
+use Rattle.message_lines.specs.declared.lines.Lines.{Lines}
 use Rattle.log_groups.specs.Images.{IsAtRest, IsLog}
 use Rattle.fp_core.specs.declared.did.Did.{Did}
 use Rattle.fp_core.specs.declared.engine.Engine.{Engine}

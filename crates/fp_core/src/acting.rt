@@ -1,6 +1,7 @@
 //! The turn of an active region: one thing done.
 ghost use Rattle.fp_core.specs.inside.Acting.{IsAtWork, MayEnd, NeedsLock};
 ghost use Rattle.fp_core.specs.Relation.{StandsFor, rules_in};
+ghost use Rattle.fp_core.specs.Rooms.{IsFrugal};
 ghost use Rattle.fp_core.specs.Turning.{Turned};
 ghost use Rattle.fp_model.specs.Machine.{Machine, Transaction};
 ghost use Rattle.fp_core.specs.declared.engine.Region.TheVariants as regions;
@@ -34,6 +35,7 @@ impl Engine<'_> {
         ensures defs { self.new.defs ≡ self.old.defs }
         ensures scripts { self.new.scripts ≡ self.old.scripts }
         ensures gate { self.new.log.gate ≡ self.old.log.gate }
+        ensures most { self.new.log.spare ≤ self.old.log.spare }
         ensures count { length self.new.regions ≡ length self.old.regions }
     {
         match self.ask(region, resource, mode)? {
@@ -58,6 +60,7 @@ impl Engine<'_> {
         ensures defs { self.new.defs ≡ self.old.defs }
         ensures scripts { self.new.scripts ≡ self.old.scripts }
         ensures gate { self.new.log.gate ≡ self.old.log.gate }
+        ensures most { self.new.log.spare ≤ self.old.log.spare }
         ensures count { length self.new.regions ≡ length self.old.regions }
     {
         match self.go_on(region, exits)? {
@@ -81,6 +84,7 @@ impl Engine<'_> {
         ensures defs { self.new.defs ≡ self.old.defs }
         ensures scripts { self.new.scripts ≡ self.old.scripts }
         ensures gate { self.new.log.gate ≡ self.old.log.gate }
+        ensures most { self.new.log.spare ≤ self.old.log.spare }
         ensures count { length self.new.regions ≡ length self.old.regions }
     {
         match self.try_act(region, exits) {
@@ -103,6 +107,7 @@ impl Engine<'_> {
         ensures defs { self.new.defs ≡ self.old.defs }
         ensures scripts { self.new.scripts ≡ self.old.scripts }
         ensures gate { self.new.log.gate ≡ self.old.log.gate }
+        ensures frugal { IsFrugal self.old self.new }
         ensures count { length self.new.regions ≡ length self.old.regions }
     {
         match self.region(region) {

@@ -208,6 +208,7 @@ impl Engine<'_> {
         ensures defs { self.new.defs ≡ self.old.defs }
         ensures scripts { self.new.scripts ≡ self.old.scripts }
         ensures gate { self.new.log.gate ≡ self.old.log.gate }
+        ensures most { self.new.log.spare ≤ self.old.log.spare }
         ensures count { length self.new.regions ≡ length self.old.regions }
     {
         let count = self.log.count();

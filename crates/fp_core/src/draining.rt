@@ -3,6 +3,7 @@ ghost use Rattle.drain_laws.specs.ProductGauge.{weight_of_line};
 ghost use Rattle.fp_core.specs.Draining.{DrainStopped, Drained, IsLeftByDrain, IsReachedBy};
 ghost use Rattle.fp_core.specs.Fronts.{HoldsFronts, KeepsFronts};
 ghost use Rattle.fp_core.specs.Relation.{StandsFor, rules_in};
+ghost use Rattle.fp_core.specs.Rooms.{IsFrugal};
 ghost use Rattle.fp_core.specs.inside.Rounding.{Began, BeganBy, IsQuiet, StoppedAmong, TookTurns, Went, WentBeside, is_at_rest, turns_of, work_ahead};
 ghost use Rattle.fp_core.specs.Sparing.{IsLogSet, Spares};
 ghost use Rattle.fp_core.specs.Standing.{IsCausedBySite, IsCausedBySource, MayStop, Origin, StandsBeside, number_of};
@@ -11,10 +12,10 @@ ghost use Rattle.fp_model.specs.Machine.{Machine};
 ghost use Rattle.fp_model.specs.declared.events.Event.TheVariants as events;
 ghost use Rattle.fp_site.specs.Moments.{Through};
 ghost use Rattle.fp_site.specs.Site.{ReadsNothing};
-ghost use Rattle.fp_source.specs.Lines.{fault_ahead, lines_ahead, lines_given, to_come};
+ghost use Rattle.message_lines.specs.Lines.{fault_ahead, lines_ahead, lines_given, to_come};
 ghost use Rattle.fp_source.specs.Source.{ReadsOnly};
 ghost use Rattle.std.specs.List.{list_all};
-ghost use Rattle.std.specs.Prelude.{◌≡◌, ◌+◌, ◌<◌, ◌↔◌, ℕ, IfErr, IfOk, IsErrOf, IsTrue, [], false, List as ListOf, OnErr, OnOk, Some, length, option_map};
+ghost use Rattle.std.specs.Prelude.{◌≡◌, ◌+◌, ◌≤◌, ◌<◌, ◌↔◌, ℕ, IfErr, IfOk, IsErrOf, IsTrue, [], false, List as ListOf, OnErr, OnOk, Some, length, option_map};
 
 use crate::did::Did;
 use crate::engine::{Engine, Region};
@@ -70,6 +71,7 @@ impl Engine<'_> {
         ensures defs { self.new.defs ≡ self.old.defs }
         ensures scripts { self.new.scripts ≡ self.old.scripts }
         ensures gate { self.new.log.gate ≡ self.old.log.gate }
+        ensures frugal { IsFrugal self.old self.new }
         ensures count { length self.new.regions ≡ length self.old.regions }
     {
         let count = self.regions.len() as u8;
@@ -112,6 +114,7 @@ impl<'a> Core<'a> {
         ensures defs { self.new.engine.defs ≡ self.old.engine.defs }
         ensures scripts { self.new.engine.scripts ≡ self.old.engine.scripts }
         ensures gate { self.new.engine.log.gate ≡ self.old.engine.log.gate }
+        ensures most { self.new.engine.log.spare ≤ self.old.engine.log.spare }
         ensures router { self.new.router ≡ self.old.router }
         ensures source { ReadsOnly S.told S.left S.faults S.holds S.keeps Part.Messages source.old source.new }
     {
@@ -159,6 +162,7 @@ impl<'a> Core<'a> {
         ensures rules { rules_in self.new.engine ≡ rules_in self.old.engine }
         ensures defs { self.new.engine.defs ≡ self.old.engine.defs }
         ensures scripts { self.new.engine.scripts ≡ self.old.engine.scripts }
+        ensures frugal { IsFrugal self.old.engine self.new.engine }
         ensures router { self.new.router ≡ self.old.router }
         ensures reads { ReadsNothing (T.tells_reads site.old) (T.tells_reads site.new)
             (T.bytes_read site.old) (T.bytes_read site.new) }
@@ -233,6 +237,7 @@ impl<'a> Core<'a> {
         ensures rules { rules_in self.new.engine ≡ rules_in self.old.engine }
         ensures defs { self.new.engine.defs ≡ self.old.engine.defs }
         ensures scripts { self.new.engine.scripts ≡ self.old.engine.scripts }
+        ensures frugal { IsFrugal self.old.engine self.new.engine }
         ensures routed { self.new.router.now.kind ≡ self.new.engine.defs.now.router }
         ensures reads { ReadsNothing (T.tells_reads site.old) (T.tells_reads site.new)
             (T.bytes_read site.old) (T.bytes_read site.new) }

@@ -59,6 +59,7 @@ pub(crate) fn append_owed(
     // What stays.
     ensures sealed { log.new.sealed ≡ log.old.sealed }
     ensures gate { log.new.gate ≡ log.old.gate }
+    ensures most { room ≤ log.old.spare → log.new.spare ≤ log.old.spare }
     ensures slots { deque_capacity owed.new ≡ deque_capacity owed.old }
     ensures waiting { OnErr result (log.new.unsealed ≡ log.old.unsealed) }
     ensures spare { OnErr result (log.old.spare ≤ log.new.spare) }
@@ -102,6 +103,7 @@ impl Engine<'_> {
         ensures spare { OnOk result (self.new.room ≤ self.new.log.spare) }
         ensures sealed { self.new.log.sealed ≡ self.old.log.sealed }
         ensures gate { self.new.log.gate ≡ self.old.log.gate }
+        ensures most { self.new.log.spare ≤ self.old.log.spare }
         ensures slots { deque_capacity self.new.owed ≡ deque_capacity self.old.owed }
 
         // The number of its message, where it has one.

@@ -140,6 +140,7 @@ impl<'a> Engine<'a> {
         ensures defs { IfOk result (λ engine. engine.defs.now ≡ defs.now) }
         ensures scripts { IfOk result (λ engine. engine.scripts.now ≡ scripts.now) }
         ensures gate { IfOk result (λ engine. engine.log.gate ≡ started.log.gate) }
+        ensures spare { IfOk result (λ engine. engine.log.spare ≡ started.log.spare) }
     {
         let Started { msdbs, log, lasts } = started;
         let format = log.format();

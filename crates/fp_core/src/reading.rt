@@ -10,10 +10,10 @@ ghost use Rattle.fp_model.specs.Lasts.{last_by};
 ghost use Rattle.fp_model.specs.Machine.{Machine, is_among, terminal_in, with_line, with_message, with_refusal};
 ghost use Rattle.fp_model.specs.Messages.{terminal_of};
 ghost use Rattle.fp_model.specs.declared.events.Event.TheVariants as events;
-ghost use Rattle.fp_source.specs.Lines.{fault_ahead, lines_ahead, lines_given, to_come};
+ghost use Rattle.message_lines.specs.Lines.{fault_ahead, lines_ahead, lines_given, to_come};
 ghost use Rattle.fp_source.specs.Source.{ReadsOnly};
 ghost use Rattle.std.specs.List.{list_any};
-ghost use Rattle.std.specs.Prelude.{◌≡◌, ◌+◌, ◌++◌, ℕ, [], IfErr, IfOk, IsErrOf, List as ListOf, None, OnErr, OnOk, Some, false, length, option_map};
+ghost use Rattle.std.specs.Prelude.{◌≡◌, ◌≤◌, ◌+◌, ◌++◌, ℕ, [], IfErr, IfOk, IsErrOf, List as ListOf, None, OnErr, OnOk, Some, false, length, option_map};
 
 use crate::asking::{Demand, demand_in};
 use crate::did::Did;
@@ -65,6 +65,7 @@ impl Engine<'_> {
         ensures defs { self.new.defs ≡ self.old.defs }
         ensures scripts { self.new.scripts ≡ self.old.scripts }
         ensures gate { self.new.log.gate ≡ self.old.log.gate }
+        ensures most { self.new.log.spare ≤ self.old.log.spare }
         ensures count { length self.new.regions ≡ length self.old.regions }
     {
         let _ = self.queues.offer(message, router)?; // its terminal is free
@@ -91,6 +92,7 @@ impl Engine<'_> {
         ensures defs { self.new.defs ≡ self.old.defs }
         ensures scripts { self.new.scripts ≡ self.old.scripts }
         ensures gate { self.new.log.gate ≡ self.old.log.gate }
+        ensures most { self.new.log.spare ≤ self.old.log.spare }
         ensures count { length self.new.regions ≡ length self.old.regions }
     {
         let slots = self.regions.len() + 1;
@@ -127,6 +129,7 @@ impl Engine<'_> {
         ensures defs { self.new.defs ≡ self.old.defs }
         ensures scripts { self.new.scripts ≡ self.old.scripts }
         ensures gate { self.new.log.gate ≡ self.old.log.gate }
+        ensures most { self.new.log.spare ≤ self.old.log.spare }
         ensures count { length self.new.regions ≡ length self.old.regions }
     {
         if self.must_wait(&line) {
@@ -178,6 +181,7 @@ impl<'a> Core<'a> {
         ensures defs { self.new.engine.defs ≡ self.old.engine.defs }
         ensures scripts { self.new.engine.scripts ≡ self.old.engine.scripts }
         ensures gate { self.new.engine.log.gate ≡ self.old.engine.log.gate }
+        ensures most { self.new.engine.log.spare ≤ self.old.engine.log.spare }
         ensures count { length self.new.engine.regions ≡ length self.old.engine.regions }
         ensures router { self.new.router ≡ self.old.router }
         ensures source { ReadsOnly S.told S.left S.faults S.holds S.keeps Part.Messages source.old source.new }
@@ -220,6 +224,7 @@ impl<'a> Core<'a> {
         ensures defs { self.new.engine.defs ≡ self.old.engine.defs }
         ensures scripts { self.new.engine.scripts ≡ self.old.engine.scripts }
         ensures gate { self.new.engine.log.gate ≡ self.old.engine.log.gate }
+        ensures most { self.new.engine.log.spare ≤ self.old.engine.log.spare }
         ensures count { length self.new.engine.regions ≡ length self.old.engine.regions }
         ensures router { self.new.router ≡ self.old.router }
         ensures source { ReadsOnly S.told S.left S.faults S.holds S.keeps Part.Messages source.old source.new }

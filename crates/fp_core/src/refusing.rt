@@ -126,6 +126,7 @@ impl Engine<'_> {
         ensures defs { self.new.defs ≡ self.old.defs }
         ensures scripts { self.new.scripts ≡ self.old.scripts }
         ensures gate { self.new.log.gate ≡ self.old.log.gate }
+        ensures most { self.new.log.spare ≤ self.old.log.spare }
         ensures count { length self.new.regions ≡ length self.old.regions }
     {
         let room = self.room - refusal_room(&self.active_in(region).message.line);
@@ -153,6 +154,7 @@ impl Engine<'_> {
         ensures defs { self.new.defs ≡ self.old.defs }
         ensures scripts { self.new.scripts ≡ self.old.scripts }
         ensures gate { self.new.log.gate ≡ self.old.log.gate }
+        ensures most { self.new.log.spare ≤ self.old.log.spare }
         ensures count { length self.new.regions ≡ length self.old.regions }
     {
         self.refuse_bare(region);
@@ -178,6 +180,7 @@ impl Engine<'_> {
         ensures defs { self.new.defs ≡ self.old.defs }
         ensures scripts { self.new.scripts ≡ self.old.scripts }
         ensures gate { self.new.log.gate ≡ self.old.log.gate }
+        ensures most { self.new.log.spare ≤ self.old.log.spare }
         ensures count { length self.new.regions ≡ length self.old.regions }
     {
         self.end(region, entry)?;
@@ -201,6 +204,7 @@ impl Engine<'_> {
         ensures defs { self.new.defs ≡ self.old.defs }
         ensures scripts { self.new.scripts ≡ self.old.scripts }
         ensures gate { self.new.log.gate ≡ self.old.log.gate }
+        ensures most { self.new.log.spare ≤ self.old.log.spare }
         ensures count { length self.new.regions ≡ length self.old.regions }
     {
         let from = self.log.count();
@@ -229,6 +233,7 @@ impl Engine<'_> {
         ensures defs { self.new.defs ≡ self.old.defs }
         ensures scripts { self.new.scripts ≡ self.old.scripts }
         ensures gate { self.new.log.gate ≡ self.old.log.gate }
+        ensures most { self.new.log.spare ≤ self.old.log.spare }
         ensures count { length self.new.regions ≡ length self.old.regions }
     {
         let active = self.active_in(region);
@@ -253,6 +258,7 @@ impl Engine<'_> {
         ensures defs { self.new.defs ≡ self.old.defs }
         ensures scripts { self.new.scripts ≡ self.old.scripts }
         ensures gate { self.new.log.gate ≡ self.old.log.gate }
+        ensures most { self.new.log.spare ≤ self.old.log.spare }
         ensures count { length self.new.regions ≡ length self.old.regions }
     {
         let active = self.active_in(region);

@@ -142,6 +142,7 @@ impl Engine<'_> {
         ensures defs { self.new.defs ≡ self.old.defs }
         ensures scripts { self.new.scripts ≡ self.old.scripts }
         ensures count { length self.new.regions ≡ length self.old.regions }
+        ensures most { self.new.log.spare ≤ self.old.log.spare }
         ensures reads { ReadsNothing (T.tells_reads site.old) (T.tells_reads site.new)
             (T.bytes_read site.old) (T.bytes_read site.new) }
         ensures spares { T.told site.old → Spares IsLogSet (T.disk site.old) (T.disk site.new) }
@@ -184,6 +185,7 @@ impl Engine<'_> {
         ensures defs { self.new.defs ≡ self.old.defs }
         ensures scripts { self.new.scripts ≡ self.old.scripts }
         ensures count { length self.new.regions ≡ length self.old.regions }
+        ensures most { self.new.log.spare ≤ self.old.log.spare }
         ensures reads { ReadsNothing (T.tells_reads site.old) (T.tells_reads site.new)
             (T.bytes_read site.old) (T.bytes_read site.new) }
         ensures spares { T.told site.old → Spares IsLogSet (T.disk site.old) (T.disk site.new) }
@@ -223,6 +225,7 @@ impl Engine<'_> {
         ensures defs { self.new.defs ≡ self.old.defs }
         ensures scripts { self.new.scripts ≡ self.old.scripts }
         ensures count { length self.new.regions ≡ length self.old.regions }
+        ensures most { self.new.log.spare ≤ self.old.log.spare }
         ensures reads { ReadsNothing (T.tells_reads site.old) (T.tells_reads site.new)
             (T.bytes_read site.old) (T.bytes_read site.new) }
         ensures spares { T.told site.old → Spares IsLogSet (T.disk site.old) (T.disk site.new) }

@@ -1,6 +1,7 @@
 //! The core: one event of a schedule at a time.
 ghost use Rattle.fp_core.specs.Fronts.{HoldsFronts, KeepsFronts};
 ghost use Rattle.fp_core.specs.Relation.{IsSetup, StandsFor, rules_in};
+ghost use Rattle.fp_core.specs.Rooms.{IsFrugal};
 ghost use Rattle.fp_core.specs.Sparing.{IsLogSet, IsSealing, Spares};
 ghost use Rattle.fp_core.specs.Standing.{IsCausedBySite, IsCausedBySource, IsUnbegun, Leaves, MayStop, Origin, StandsAt, StandsBeside, Stepped, SteppedBeside, number_of, seals_of};
 ghost use Rattle.fp_model.specs.Events.{IsEventOf};
@@ -13,7 +14,7 @@ ghost use Rattle.fp_model.specs.Messages.{line_fault, lines_of};
 ghost use Rattle.fp_model.specs.Product.{rules_of};
 ghost use Rattle.fp_model.specs.declared.events.Event.TheVariants as events;
 ghost use Rattle.fp_site.specs.Site.{ReadsNothing};
-ghost use Rattle.fp_source.specs.Lines.{fault_ahead, lines_ahead, lines_given};
+ghost use Rattle.message_lines.specs.Lines.{fault_ahead, lines_ahead, lines_given};
 ghost use Rattle.fp_source.specs.Source.{ReadsOnly};
 ghost use Rattle.msdb_store.specs.Store.{IsOf};
 ghost use Rattle.std.specs.Prelude.{◌≡◌, ◌+◌, ℕ, [], IfErr, IfOk, IsErrOf, List as ListOf, IsOk, OnErr, OnOk, Some, length, option_map, true};
@@ -25,8 +26,9 @@ use balancing::Lasts;
 use fp_exits::{Exits, Router};
 use fp_model::{Defs, Event, Kind};
 use fp_site::Site;
-use fp_source::{Lines, Part, Source};
+use fp_source::{Part, Source};
 use log_groups::Log;
+use message_lines::Lines;
 use msdb_store::MsdbStore;
 use std::alloc::{AllocError, Global};
 use txn_lang::Scripts;
@@ -89,6 +91,7 @@ impl<'a> Core<'a> {
         ensures defs { IfOk result (λ core. core.engine.defs.now ≡ defs.now) }
         ensures scripts { IfOk result (λ core. core.engine.scripts.now ≡ scripts.now) }
         ensures gate { IfOk result (λ core. core.engine.log.gate ≡ started.log.gate) }
+        ensures spare { IfOk result (λ core. core.engine.log.spare ≡ started.log.spare) }
         ensures routed { IfOk result (λ core. core.router.now.kind ≡ core.engine.defs.now.router) }
 
         // All lines are to come.
@@ -151,6 +154,7 @@ impl<'a> Core<'a> {
         ensures rules { rules_in self.new.engine ≡ rules_in self.old.engine }
         ensures defs { self.new.engine.defs ≡ self.old.engine.defs }
         ensures scripts { self.new.engine.scripts ≡ self.old.engine.scripts }
+        ensures frugal { IsFrugal self.old.engine self.new.engine }
         ensures routed { self.new.router.now.kind ≡ self.new.engine.defs.now.router }
         ensures reads { ReadsNothing (T.tells_reads site.old) (T.tells_reads site.new)
             (T.bytes_read site.old) (T.bytes_read site.new) }

@@ -3,7 +3,7 @@ ghost use Rattle.fp_core.specs.Reading.{stop_of};
 ghost use Rattle.fp_core.specs.declared.stop.Stop.TheVariants as stops;
 ghost use Rattle.std.specs.Prelude.{◌≡◌};
 
-use fp_source::LineFault;
+use message_lines::LineFault;
 use std::alloc::AllocError;
 use thiserror::Error;
 

@@ -2,6 +2,7 @@
 ghost use Rattle.fp_core.specs.Numbering.{last_kept, last_told};
 ghost use Rattle.fp_core.specs.declared.numbering.Kept.{Kept as KeptOf};
 ghost use Rattle.fp_core.specs.Relation.{IsShort, IsTransaction, StandsFor, rules_in};
+ghost use Rattle.fp_core.specs.Rooms.{IsFrugal};
 ghost use Rattle.fp_core.specs.Turning.{Turned};
 ghost use Rattle.fp_core.specs.declared.engine.Region.TheVariants as regions;
 ghost use Rattle.fp_model.specs.Asking.{script_of};
@@ -11,7 +12,7 @@ ghost use Rattle.fp_model.specs.Serial.{begun};
 ghost use Rattle.fp_model.specs.declared.events.Event.TheVariants as events;
 ghost use Rattle.fp_model.specs.declared.log.Outcome.TheVariants.{Memory};
 ghost use Rattle.fp_model.specs.declared.scripts.Script.{Script};
-ghost use Rattle.std.specs.Prelude.{◌≡◌, ◌≤◌, ◌-◌, ◌+◌, ℕ, [], IfOk, None, OnErr, OnOk, Option as OptionOf, Some, length, option_map, slice_get};
+ghost use Rattle.std.specs.Prelude.{◌≡◌, ◌≤◌, ◌-◌, ◌+◌, ℕ, [], IfOk, None, OnErr, OnOk, Option as OptionOf, Some, length, max, option_map, slice_get};
 ghost use Rattle.std.specs.VecDeque.{deque_capacity};
 ghost use Rattle.sync_point.specs.Refusals.{refusal_room};
 
@@ -143,6 +144,7 @@ fn make_room(
     ensures log { log.new ≡ record log.old { spare = log.new.spare } }
     ensures gate { log.new.gate ≡ log.old.gate }
     ensures spare { log.old.spare ≤ log.new.spare }
+    ensures most { log.new.spare ≤ max log.old.spare (others + refusal_room line.now) }
     ensures owed { owed.new.items ≡ owed.old.items }
     ensures capacity { deque_capacity owed.old ≤ deque_capacity owed.new }
     ensures lasts { lasts.new.terminals ≡ lasts.old.terminals }
@@ -180,6 +182,7 @@ impl Engine<'_> {
         ensures defs { self.new.defs ≡ self.old.defs }
         ensures scripts { self.new.scripts ≡ self.old.scripts }
         ensures gate { self.new.log.gate ≡ self.old.log.gate }
+        ensures frugal { IsFrugal self.old self.new }
         ensures count { length self.new.regions ≡ length self.old.regions }
     {
         let group = self.group_of(region);

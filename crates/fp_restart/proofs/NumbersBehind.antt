@@ -5,8 +5,8 @@ use Rattle.std.proofs.lemmas.List.Sums.{fold-append}
 use Rattle.std.specs.Option.{option_map_or}
 use Rattle.fp_model.specs.declared.log.Entry.{Entry}
 use Rattle.fp_model.specs.Lasts.{Last, format_at, format_behind, last_by, lasts_behind, lasts_of, with_last}
-use Rattle.fp_restart.specs.Replayed.{AreOfSome, HasNumbersOf}
-use Rattle.fp_restart.specs.inside.Replayed.{HasNumbersOfSome}
+use Rattle.fp_restart.specs.Replayed.{AreOfSome}
+use Rattle.fp_restart.specs.inside.Replayed.{HasNumbersOf, HasNumbersOfSome}
 use Rattle.log_groups.specs.Log.{LogState}
 use Rattle.fp_restart.specs.declared.numbers.Numbers.{Numbers}
 

@@ -32,7 +32,8 @@ use Rattle.log_groups.specs.Log.{LogState}
 use Rattle.msdb_store.specs.Store.{IsFitSegment, IsOf, Stored}
 use Rattle.fp_restart.specs.inside.Begun.{IsBegunBy}
 use Rattle.fp_restart.specs.declared.begun.Begun.{Begun}
-use Rattle.fp_restart.specs.Replayed.{HoldsFit, IsFirstBadAt, IsFollowed, IsReadable, IsReplayed, IsTaken, Progress, ReadsBack, way_to}
+use Rattle.fp_restart.specs.Replayed.{HoldsFit, IsFirstBadAt, IsReadable, IsReplayed, Progress, ReadsBack, way_to}
+use Rattle.fp_restart.specs.inside.Replayed.{IsFollowed, IsTaken}
 use Rattle.fp_restart.specs.declared.numbers.Numbers.{Numbers}
 use Rattle.fp_restart.specs.Restarts.{HasUnfit, IsBadAt, StandsFor}
 use Rattle.fp_restart.proofs.Firsts.{fit-front, fit-nothing}

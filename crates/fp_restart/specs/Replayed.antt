@@ -46,11 +46,6 @@ pub record AreOfSome (log : LogState) (numbers : Numbered) : Type 0 where
   pub format : log.format ≡ format_at log.front_format entries
   pub lasts : numbers.terminals ≡ lasts_of log.front_format entries
 
--- behind these entries the format and the numbers are those from before with theirs
-pub record HasNumbersOf (entries : List Entry) (old new : Numbers) : Type 0 where
-  pub format : new.format ≡ format_at old.format entries
-  pub lasts : new.lasts.terminals ≡ lasts_behind old.format entries old.lasts.terminals
-
 module _ (defs : Defs) (log : List ℕ) where
   -- from the first gate on the log holds whole groups up to that place; their items may be applied
   pub record HoldsFit (first at : ℕ) (groups : List (List Entry)) : Type 0 where
@@ -67,30 +62,12 @@ module _ (defs : Defs) (log : List ℕ) where
     pub lasts : way.lasts ≡ lasts_of way.first_format (entries_of groups)
     pub msdbs : now ≡ with_items defs.msdbs before (items_of (entries_of groups))
 
-  -- the group at a place is whole, its items may be applied behind those of earlier entries, the intervals begun are
-  -- those of all of these, the numbers are those from before with the group's, and the databases now are those from
-  -- before with the group's items
-  pub record IsTaken (earlier : List Entry) (at next count : ℕ) (begun : Begun) (old new : Numbers)
-      (before now : List Msdb) : Type 0 where
-    pub entries : List Entry
-    pub group : HasGroup log at entries next
-    pub fit : AreFit defs (items_of earlier ++ items_of entries)
-    pub intervals : IsBegunBy begun (items_of earlier ++ items_of entries)
-    pub count_is : count ≡ length entries
-    pub numbers : HasNumbersOf entries old new
-    pub msdbs : now ≡ with_items defs.msdbs before (items_of entries)
-
   -- from the first gate on whole groups stand, up to a gate that isn't open; their items may be applied
   pub record IsReadable (first : ℕ) : Type 0 where
     pub groups : List (List Entry)
     pub gate : ℕ
     pub holds : HoldsFit first gate groups
     pub closed : slice_index log gate ≢ 1
-
-  -- so it is, and the intervals begun are those that the items name
-  pub record IsFollowed (way : Progress) (begun : Begun) (before now : List Msdb) : Type 0 where
-    pub replayed : IsReplayed way before now
-    pub intervals : IsBegunBy begun (items_of (entries_of replayed.groups))
 
   -- the first place, from that gate on, where no group stands that restart may take
   pub record IsFirstBadAt (first at : ℕ) : Type 0 where

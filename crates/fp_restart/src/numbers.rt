@@ -3,7 +3,7 @@ ghost use Rattle.balancing.specs.Numbered.{Numbered};
 ghost use Rattle.fp_model.specs.Lasts.{format_behind, last_by, uses_number, with_last};
 ghost use Rattle.fp_model.specs.ReplyLine.{line_text};
 ghost use Rattle.fp_restart.specs.inside.Numbers.{as_last};
-ghost use Rattle.fp_restart.specs.Replayed.{HasNumbersOf};
+ghost use Rattle.fp_restart.specs.inside.Replayed.{HasNumbersOf};
 ghost use Rattle.std.specs.Option.{option_map_or};
 ghost use Rattle.std.specs.Prelude.{◌≡◌, [], IfOk, OnOk, option_map, unwrap_or};
 

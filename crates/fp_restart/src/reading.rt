@@ -7,8 +7,8 @@ ghost use Rattle.fp_model.specs.LogText.{FitsFront, IsFormat, StartsWithFront, f
 ghost use Rattle.fp_model.specs.WellFormed.{IsMsdbDef};
 ghost use Rattle.fp_model.specs.declared.log.Entry.{Entry as EntryOf};
 ghost use Rattle.fp_restart.specs.inside.Begun.{IsBegunBy};
-ghost use Rattle.fp_restart.specs.Replayed.{AreOfSome, IsFirstBadAt, IsReadable, IsReplayed, IsTaken, way_to};
-ghost use Rattle.fp_restart.specs.inside.Replayed.{HasNumbersOfSome};
+ghost use Rattle.fp_restart.specs.Replayed.{AreOfSome, IsFirstBadAt, IsReadable, IsReplayed, way_to};
+ghost use Rattle.fp_restart.specs.inside.Replayed.{HasNumbersOfSome, IsTaken};
 ghost use Rattle.fp_restart.specs.Restarts.{IsBadAt};
 ghost use Rattle.fp_restart.specs.declared.fault.RestartFault.TheVariants as faults;
 ghost use Rattle.fp_site.specs.Disk.{Stays};

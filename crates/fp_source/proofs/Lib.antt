@@ -1,4 +1,2 @@
-pub mod Pieces
 pub mod Calls
 pub mod Errs
-pub mod LineLemmas

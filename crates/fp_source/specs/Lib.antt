@@ -1,4 +1,1 @@
 pub mod Source
-pub mod Memory
-pub mod Lines
-pub mod inside

@@ -2,9 +2,9 @@
 use crate::systems::{EACH_SEALED, System, exits};
 use fp_model::Bytes;
 use fp_site::Site;
-use fp_source::MemorySource;
 use fp_system::{Status, ims};
 use memory_site::MemorySite;
+use memory_source::MemorySource;
 use std::alloc::{AllocError, Global};
 
 // What a command answers over four parts, of which the reads with these numbers fail, and a site.

@@ -15,8 +15,8 @@ use Rattle.fp_core.specs.Standing.{Origin, StandsBeside}
 use Rattle.fp_core.specs.declared.engine.Engine.{Engine}
 use Rattle.fp_model.specs.Messages.{lines_of}
 use Rattle.fp_site.specs.Disk.{Disk}
-use Rattle.fp_source.specs.Lines.{lines_ahead}
-use Rattle.fp_source.specs.declared.lines.Lines.{Lines}
+use Rattle.message_lines.specs.Lines.{lines_ahead}
+use Rattle.message_lines.specs.declared.lines.Lines.{Lines}
 use Rattle.balancing.specs.Numbered.{Numbered}
 use Rattle.log_groups.specs.Log.{LogState}
 use Rattle.msdb_store.specs.Store.{Stored}

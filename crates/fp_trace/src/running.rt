@@ -15,9 +15,9 @@ use fp_core::{Core, Did};
 use fp_exits::Exits;
 use fp_model::{Bytes, Defs, Entry, Event};
 use fp_schedule::read_events;
-use fp_source::MemorySource;
 use log_groups::{Front, Group, Log};
 use memory_site::MemorySite;
+use memory_source::MemorySource;
 use std::alloc::{AllocError, Global};
 use txn_lang::Scripts;
 

@@ -1,7 +1,9 @@
 //! What no clause of `fp_source` says, and each public call once.
 use crate::steps::ended;
 use fp_lists::Bytes;
-use fp_source::{Failed, LineFault, Lines, MemorySource, Part, Source, WholeFault, whole};
+use fp_source::{Failed, Part, Source, WholeFault, whole};
+use memory_source::MemorySource;
+use message_lines::{LineFault, Lines};
 use std::alloc::{AllocError, Global};
 
 // A byte, how many times, and what stands behind it.

@@ -13,8 +13,8 @@ use Rattle.fp_model.specs.Runs.{IsDrained}
 use Rattle.fp_site.specs.Disk.{Disk, IsDurable, IsLawful, Snapshot}
 use Rattle.fp_site.specs.Moments.{Through}
 use Rattle.fp_site.proofs.Runs.{joined, weaker}
-use Rattle.fp_source.specs.Lines.{buffered, lines_given, to_come}
-use Rattle.fp_source.specs.declared.lines.Lines.{Lines}
+use Rattle.message_lines.specs.Lines.{buffered, lines_given, to_come}
+use Rattle.message_lines.specs.declared.lines.Lines.{Lines}
 use Rattle.fp_core.specs.declared.did.Did.{Did}
 use Rattle.fp_core.specs.declared.engine.Engine.{Engine}
 use Rattle.fp_core.specs.declared.stop.Stop.{Stop}
@@ -25,7 +25,8 @@ use Rattle.fp_core.specs.Sparing.{IsSealing}
 use Rattle.fp_core.specs.Standing.{IsLeft, IsStill, IsWithin, Leaves, MayStop, Origin, StandsBeside, SteppedBeside, seals_of}
 use Rattle.fp_core.specs.Turning.{Turned}
 use Rattle.fp_core.proofs.Steps.{left_alone}
-use Rattle.schedule_runs.specs.Standing.{IsDone, IsLeftOnWay, IsStopped, StandsOnWay}
+use Rattle.schedule_runs.specs.Standing.{IsDone, IsLeftOnWay, IsStopped}
+use Rattle.schedule_runs.specs.inside.Standing.{StandsOnWay}
 use Rattle.schedule_runs.specs.Ways.{Comes, next_event}
 use Rattle.schedule_runs.proofs.WayLemmas.{comes_behind, comes_drained, comes_still, comes_turn, comes_within, drain_rounds, is_before}
 use Rattle.fp_core.proofs.Bounds.{reached_too}

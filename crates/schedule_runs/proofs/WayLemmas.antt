@@ -12,7 +12,7 @@ use Rattle.fp_model.specs.Rules.{Rules}
 use Rattle.fp_model.specs.Runs.{Drains, IsDrained, RunStep, Runs, TakesOf, device_faults, is_device_fault, machine_after, round, step_events}
 use Rattle.fp_model.specs.Turns.{Environment, NoFault, DeviceFault, OutOfMemory}
 use Rattle.fp_site.specs.Disk.{Disk}
-use Rattle.fp_source.specs.declared.lines.Lines.{Lines}
+use Rattle.message_lines.specs.declared.lines.Lines.{Lines}
 use Rattle.fp_core.specs.declared.did.Did.{Did}
 use Rattle.fp_core.specs.declared.engine.Engine.{Engine}
 use Rattle.fp_core.specs.Draining.{AreCalm, Drained, IsInDrain}

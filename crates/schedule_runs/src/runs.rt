@@ -9,9 +9,10 @@ ghost use Rattle.fp_lists.specs.Continued.{IsContinued};
 ghost use Rattle.fp_model.specs.Machine.{Machine};
 ghost use Rattle.fp_site.specs.Moments.{Through};
 ghost use Rattle.fp_site.specs.Site.{ReadsNothing};
-ghost use Rattle.fp_source.specs.Lines.{fault_ahead};
+ghost use Rattle.message_lines.specs.Lines.{fault_ahead};
 ghost use Rattle.fp_source.specs.Source.{ReadsOnly};
-ghost use Rattle.schedule_runs.specs.Standing.{IsDone, IsLeftOnWay, IsStopped, StandsOnWay};
+ghost use Rattle.schedule_runs.specs.Standing.{IsDone, IsLeftOnWay, IsStopped};
+ghost use Rattle.schedule_runs.specs.inside.Standing.{StandsOnWay};
 ghost use Rattle.std.specs.List.{AllByRecursion};
 ghost use Rattle.std.specs.Prelude.{◌≡◌, ℕ, [], IfErr, IsErrOf, None, OnOk, Some, option_map};
 

@@ -3,9 +3,9 @@
 use crate::seeds::{Group, Run, Seed};
 use fp_exits::Exits;
 use fp_model::Bytes;
-use fp_source::MemorySource;
 use fp_system::{Status, ims};
 use memory_site::{MemorySite, Snapshot};
+use memory_source::MemorySource;
 use std::alloc::{AllocError, Global};
 
 // At how many calls a run is stopped at most.

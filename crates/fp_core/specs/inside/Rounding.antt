@@ -12,8 +12,8 @@ use Rattle.fp_model.specs.Rules.{Rules}
 use Rattle.fp_model.specs.Runs.{RunStep, Runs, IsDrained, step_events}
 use Rattle.fp_model.specs.State.{numbers_up}
 use Rattle.fp_site.specs.Disk.{Disk}
-use Rattle.fp_source.specs.Lines.{lines_ahead, lines_given}
-use Rattle.fp_source.specs.declared.lines.Lines.{Lines}
+use Rattle.message_lines.specs.Lines.{lines_ahead, lines_given}
+use Rattle.message_lines.specs.declared.lines.Lines.{Lines}
 use Rattle.fp_core.specs.declared.did.Did.{Did}
 use Rattle.fp_core.specs.declared.engine.Engine.{Engine}
 use Rattle.fp_core.specs.declared.engine.Region.{Region}

@@ -3,8 +3,8 @@ use Rattle.std.specs.Prelude.{◌≡◌, ℕ, List}
 use Rattle.fp_model.specs.declared.events.Event.{Event}
 use Rattle.fp_model.specs.Machine.{Machine}
 use Rattle.fp_site.specs.Disk.{Disk}
-use Rattle.fp_source.specs.Lines.{lines_ahead}
-use Rattle.fp_source.specs.declared.lines.Lines.{Lines}
+use Rattle.message_lines.specs.Lines.{lines_ahead}
+use Rattle.message_lines.specs.declared.lines.Lines.{Lines}
 use Rattle.fp_core.specs.declared.did.Did.{Did}
 use Rattle.fp_core.specs.declared.engine.Engine.{Engine}
 use Rattle.fp_core.specs.Turning.{Turned}

@@ -1,13 +1,13 @@
 use Rattle.std.proofs.Common.{◌≡◌, ◌≢◌, ◌+◌, length, ◌∙◌, refl, sym, ap, subst, arith, rules}
 use Rattle.std.specs.Prelude.{slice_index}
 use Rattle.fp_model.specs.Groups.{entries_of}
-use Rattle.fp_restart.specs.Replayed.{IsFirstBadAt, IsFollowed, IsTaken}
+use Rattle.fp_restart.specs.Replayed.{IsFirstBadAt}
 use Rattle.fp_restart.specs.Restarts.{IsBadAt}
 use Rattle.log_groups.specs.Reads.{HasGroup}
 use Rattle.fp_restart.proofs.Groups.{read_at_most, read_inside}
 use Rattle.fp_restart.proofs.Looking.{Looks, looks_none, looks_on}
 use Rattle.fp_restart.proofs.NumbersBehind.{some_more, some_none, some_of}
-use Rattle.fp_restart.specs.inside.Replayed.{HasNumbersOfSome}
+use Rattle.fp_restart.specs.inside.Replayed.{HasNumbersOfSome, IsFollowed, IsTaken}
 use Rattle.fp_restart.proofs.Replays.{ended_at, followed_more, followed_none, way_of}
 use Rattle.fp_restart.proofs.reading.replay.Given as given
 use Rattle.fp_restart.proofs.reading.replay.Goals as goal

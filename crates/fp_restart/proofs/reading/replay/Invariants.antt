@@ -1,8 +1,7 @@
 use Rattle.std.proofs.Common.{◌≡◌, [], ◌+◌, ◌-◌, ◌^◌, ◌≤◌}
 use Rattle.log_groups.specs.Reads.{ReadsOnlyLog}
 use Rattle.msdb_store.specs.Store.{IsOf}
-use Rattle.fp_restart.specs.Replayed.{IsFollowed}
-use Rattle.fp_restart.specs.inside.Replayed.{HasNumbersOfSome}
+use Rattle.fp_restart.specs.inside.Replayed.{HasNumbersOfSome, IsFollowed}
 use Rattle.fp_restart.proofs.Looking.{Looks}
 use Rattle.fp_restart.proofs.Replays.{way_of}
 use Rattle.fp_restart.proofs.reading.replay.Given as goal

@@ -4,7 +4,7 @@ use Rattle.fp_model.specs.Items.{IsFit, with_items, items_of}
 use Rattle.msdb_store.specs.Store.{IsFitSegment}
 use Rattle.log_groups.specs.Reads.{HasGroup}
 use Rattle.fp_restart.specs.inside.Begun.{Judges}
-use Rattle.fp_restart.specs.Replayed.{HasNumbersOf}
+use Rattle.fp_restart.specs.inside.Replayed.{HasNumbersOf}
 use Rattle.fp_restart.proofs.Groups.{stands_further}
 use Rattle.fp_restart.proofs.Replays.{fit_segments}
 use Rattle.fp_restart.proofs.reading.take_group.Given as given

@@ -14,7 +14,8 @@ use Rattle.fp_core.proofs.Onwards.{reads_nothing_none}
 use Rattle.gated_write.proofs.Calls.{reads_nothing_both}
 use Rattle.fp_core.proofs.Rounds.{if_err_from}
 use Rattle.fp_core.proofs.SparingLemmas.{spares_none, spares_on}
-use Rattle.schedule_runs.specs.Standing.{IsStopped, StandsOnWay}
+use Rattle.schedule_runs.specs.Standing.{IsStopped}
+use Rattle.schedule_runs.specs.inside.Standing.{StandsOnWay}
 use Rattle.schedule_runs.specs.Ways.{next_event}
 use Rattle.schedule_runs.proofs.StandingLemmas.{moments_step, none_left, none_on_way, one_on_way, stopped_step}
 use Rattle.schedule_runs.proofs.runs.take_events.Goals as goal

@@ -2,7 +2,7 @@ use Rattle.std.proofs.Common.{◌≡◌, drop}
 use Rattle.fp_model.specs.Machine.{Machine}
 use Rattle.fp_site.specs.Moments.{Through}
 use Rattle.fp_site.specs.Site.{ReadsNothing}
-use Rattle.fp_source.specs.Lines.{fault_ahead}
+use Rattle.message_lines.specs.Lines.{fault_ahead}
 use Rattle.fp_source.specs.Source.{ReadsOnly}
 use Rattle.fp_source.specs.declared.part.Part.TheVariants as part
 use Rattle.fp_core.specs.Draining.{IsReachedBy}
@@ -11,7 +11,8 @@ use Rattle.fp_core.specs.Relation.{rules_in}
 use Rattle.fp_core.specs.Sparing.{IsLogSet, Spares}
 use Rattle.fp_core.specs.Standing.{Origin, StandsBeside}
 use Rattle.fp_lists.specs.Continued.{IsContinued}
-use Rattle.schedule_runs.specs.Standing.{IsLeftOnWay, StandsOnWay}
+use Rattle.schedule_runs.specs.Standing.{IsLeftOnWay}
+use Rattle.schedule_runs.specs.inside.Standing.{StandsOnWay}
 use Rattle.schedule_runs.proofs.runs.take_events.Given as goal
 
 -- the turns of the events so far led to a machine that core, site and source stand beside

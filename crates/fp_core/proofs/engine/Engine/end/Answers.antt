@@ -41,3 +41,9 @@ returns-clause-ok c =
           c.refusal_room.result;
       lasts = c.keep.new.lasts;
     }) c.set_region.ensures
+
+pub returns-in_err-append_owed-clause-most : goal.returns-in_err-append_owed-clause-most
+returns-in_err-append_owed-clause-most c = c.append_owed.ensures.most (omega (arith, c.requires.under.1.1.stands.spare))
+
+pub returns-clause-most : goal.returns-clause-most
+returns-clause-most c = c.append_owed.ensures.most (omega (arith, c.requires.under.1.1.stands.spare))

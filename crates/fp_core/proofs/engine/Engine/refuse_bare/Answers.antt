@@ -90,3 +90,6 @@ returns-clause-count c =
     ap length c.set_region.ensures
     ∙ length-set (slice_set c.args.self.now.regions (c.from.result - 1) (regions.Active c.bare_parts.new.active)) _ _
     ∙ length-set c.args.self.now.regions _ _
+
+pub returns-clause-most : goal.returns-clause-most
+returns-clause-most c = c.append_owed.ensures.most (omega (arith, c.requires.under.1.1.stands.spare))

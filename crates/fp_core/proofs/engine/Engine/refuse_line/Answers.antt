@@ -50,3 +50,9 @@ returns-clause-refused c m s =
     ∙ ap (λ (lasts : List Last). with_used (option_map last_kept c.args.kept) lasts) c.reserve-2.ensures.terminals
     ∙ ap (λ (o : Option Last). with_used o c.args.self.now.lasts.terminals) c.requires.kept)
     (omega (arith, c.in_ok-reserve-2.ensures.ok, c.len-slots.ensures, c.keep.ensures.spare))
+
+pub returns-in_err-append_owed-clause-most : goal.returns-in_err-append_owed-clause-most
+returns-in_err-append_owed-clause-most c = c.append_owed.ensures.most c.requires.stands.1.spare
+
+pub returns-clause-most : goal.returns-clause-most
+returns-clause-most c = c.append_owed.ensures.most c.requires.stands.1.spare

@@ -25,6 +25,7 @@ loop-self-init g c =
       defs = refl;
       scripts = refl;
       count = refl;
+      most = omega arith;
       reads = λ set h. (h, refl);
       calm = refl;
       spares = λ told. spares_none IsLogSet disk (g.met.T.Site.lawful c.args.site.now told);
@@ -65,6 +66,7 @@ loop-self-preserved g c =
       defs = one.defs ∙ before.defs;
       scripts = one.scripts ∙ before.scripts;
       count = one.count ∙ before.count;
+      most = omega (arith, one.most, before.most);
       reads = λ set h. let after = one.reads set h in let earlier = before.reads set after.0 in
           (earlier.0, after.1 ∙ earlier.1);
       calm = c.in_ok-seal.ensures.calm ∙ before.calm;

@@ -1,4 +1,4 @@
-use Rattle.std.proofs.Common.{◌≡◌, ◌-◌, length}
+use Rattle.std.proofs.Common.{◌≡◌, ◌-◌, ◌≤◌, length}
 use Rattle.fp_model.specs.History.{place_of}
 use Rattle.fp_model.specs.Machine.{Machine}
 use Rattle.fp_site.specs.Site.{ReadsNothing}
@@ -27,6 +27,7 @@ invariant-loop-self g l = record {
   defs : l.self.defs ≡ l.initial.self.defs;
   scripts : l.self.scripts ≡ l.initial.self.scripts;
   count : length l.self.regions ≡ length l.initial.self.regions;
+  most : l.self.log.spare ≤ l.initial.self.log.spare;
   reads : ReadsNothing (g.T.Site.tells_reads l.initial.site) (g.T.Site.tells_reads l.site)
       (g.T.Site.bytes_read l.initial.site) (g.T.Site.bytes_read l.site);
   spares : g.T.Site.told l.initial.site → Spares IsLogSet (g.T.Site.disk l.initial.site) (g.T.Site.disk l.site);

@@ -5,6 +5,7 @@ use Rattle.fp_core.specs.declared.did.Did.TheVariants as did
 use Rattle.fp_core.specs.declared.engine.Active.{Active}
 use Rattle.fp_core.specs.declared.engine.Region.{Region}
 use Rattle.fp_core.specs.Turning.{Turned}
+use Rattle.fp_core.proofs.RoomLemmas.{frugal_taken}
 use Rattle.fp_core.proofs.Steps.{regions_long}
 use Rattle.fp_core.proofs.Takes.{first_takeable, group_some, group_within, nothing, roomier, takes}
 use Rattle.fp_core.proofs.engine.Engine.take_message.Goals as goal
@@ -111,3 +112,21 @@ make_room-requires-clause-few c =
 
 pub returns-clause-count : goal.returns-clause-count
 returns-clause-count c = ap length c.set_region.ensures ∙ length-set c.args.self.now.regions _ _
+
+pub returns-in_err-room-clause-frugal : goal.returns-in_err-room-clause-frugal
+returns-in_err-room-clause-frugal c =
+    frugal_taken c.args.self.now c.requires.stands.0 c.group_of-group.result (c.args.region - 1)
+    c.make_room.new.log.spare c.in-Some.message.now c.requires.stands.1 c.requires.idle (sym c.in-Some.ensures)
+    c.make_room.ensures.most
+
+pub returns-in_err-begun-clause-frugal : goal.returns-in_err-begun-clause-frugal
+returns-in_err-begun-clause-frugal c =
+    frugal_taken c.args.self.now c.requires.stands.0 c.group_of-group.result (c.args.region - 1)
+    c.make_room.new.log.spare c.in-Some.message.now c.requires.stands.1 c.requires.idle (sym c.in-Some.ensures)
+    c.make_room.ensures.most
+
+pub returns-clause-frugal : goal.returns-clause-frugal
+returns-clause-frugal c =
+    frugal_taken c.args.self.now c.requires.stands.0 c.group_of-group.result (c.args.region - 1)
+    c.make_room.new.log.spare c.in-Some.message.now c.requires.stands.1 c.requires.idle (sym c.in-Some.ensures)
+    c.make_room.ensures.most

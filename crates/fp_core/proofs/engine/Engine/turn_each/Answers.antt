@@ -1,6 +1,7 @@
 use Rattle.std.proofs.Common.{◌≡◌, ◌∙◌, ap, refl, subst, arith, ℕ, ◌+◌, ◌<◌, length, Some, slice_get}
 use Rattle.fp_core.specs.declared.engine.Region.TheVariants as regions
 use Rattle.fp_core.specs.inside.Rounding.{StoppedAmong, TookTurns, turns_of}
+use Rattle.fp_core.proofs.RoomLemmas.{frugal_on}
 use Rattle.fp_core.proofs.Rounds.{on_err_sure, one_turned, stopped_among}
 use Rattle.fp_core.proofs.Steps.{regions_long}
 use Rattle.fp_core.proofs.Takes.{is_idle}
@@ -33,6 +34,8 @@ loop-done-preserved g c = record {
   scripts = c.turn.ensures.scripts ∙ c.loop-done.invariant.scripts;
   gate = c.turn.ensures.gate ∙ c.loop-done.invariant.gate;
   count = c.turn.ensures.count ∙ c.loop-done.invariant.count;
+  frugal = frugal_on c.args.self.now c.loop-done.self c.turn.new.self (ap (λ d. d.now) c.loop-done.invariant.defs)
+      c.loop-done.invariant.frugal c.turn.ensures.frugal;
   took = λ m s.
       let t = c.loop-done.invariant.took m s in
       one_turned m c.loop-done.self c.turn.new.self c.loop-done.done (c.loop-done.done + 1) (c.loop-done.done + 1)
@@ -45,3 +48,8 @@ returns-clause-turned g c m s =
     let all : c.loop-done.done ≡ length c.args.self.now.defs.now.regions
     = omega (arith, regions_long c.args.self.now m s) in
     subst (λ (n : ℕ). TookTurns (turns_of n) m c.loop-done.self) all (c.loop-done.invariant.took m s)
+
+pub returns-in_err-turn-clause-frugal : goal.returns-in_err-turn-clause-frugal
+returns-in_err-turn-clause-frugal g c =
+    frugal_on c.args.self.now c.loop-done.self c.turn.new.self (ap (λ d. d.now) c.loop-done.invariant.defs)
+    c.loop-done.invariant.frugal c.turn.ensures.frugal

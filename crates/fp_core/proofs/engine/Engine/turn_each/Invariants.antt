@@ -1,6 +1,7 @@
 use Rattle.std.proofs.Common.{◌≡◌, length}
 use Rattle.fp_model.specs.Machine.{Machine}
 use Rattle.fp_core.specs.Relation.{StandsFor, rules_in}
+use Rattle.fp_core.specs.Rooms.{IsFrugal}
 use Rattle.fp_core.specs.inside.Rounding.{TookTurns, turns_of}
 use Rattle.fp_core.proofs.engine.Engine.turn_each.Given as goal
 
@@ -12,5 +13,6 @@ invariant-loop-done g l = record {
   scripts : l.self.scripts ≡ l.initial.self.scripts;
   gate : l.self.log.gate ≡ l.initial.self.log.gate;
   count : length l.self.regions ≡ length l.initial.self.regions;
+  frugal : IsFrugal l.initial.self l.self;
   took : (m : Machine) → StandsFor l.initial.self m → TookTurns (turns_of l.done) m l.self;
 }

@@ -13,6 +13,7 @@ use Rattle.fp_core.proofs.Onwards.{reads_nothing_none}
 use Rattle.gated_write.proofs.Calls.{reads_nothing_both}
 use Rattle.fp_core.proofs.FrontLemmas.{fronts_none, fronts_on, holds_none, holds_on}
 use Rattle.fp_core.proofs.SparingLemmas.{spares_none, spares_on}
+use Rattle.fp_core.proofs.RoomLemmas.{frugal_less, frugal_on}
 use Rattle.fp_core.proofs.Rounds.{if_err_from}
 use Rattle.fp_core.proofs.stepping.Core.drain.Goals as goal
 
@@ -40,6 +41,7 @@ loop-done-init g c =
       defs = refl;
       scripts = refl;
       router = refl;
+      frugal = frugal_less core.engine core.engine (omega arith);
       reads = reads_nothing_none (g.T.Site.tells_reads c.args.site.now) (g.T.Site.bytes_read c.args.site.now);
       site_calm = refl;
       source_calm = refl;
@@ -159,6 +161,7 @@ loop-done-preserved g c =
       defs = c.round.ensures.defs ∙ i.defs;
       scripts = c.round.ensures.scripts ∙ i.scripts;
       router = c.round.ensures.router ∙ i.router;
+      frugal = frugal_on core.engine mid.engine new.engine (ap (λ d. d.now) i.defs) i.frugal c.round.ensures.frugal;
       reads = reads_nothing_both (g.T.Site.tells_reads c.args.site.now) (g.T.Site.tells_reads c.loop-done.site)
           (g.T.Site.tells_reads c.round.new.site)
           (g.T.Site.bytes_read c.args.site.now) (g.T.Site.bytes_read c.loop-done.site)
@@ -209,3 +212,17 @@ returns-then-not-branch-clause-front_on g c told =
     holds_on (g.T.Site.disk c.args.site.now) (g.T.Site.disk c.loop-done.site) (g.T.Site.disk c.round.new.site)
     c.args.self.now.engine.log.gate c.loop-done.self.engine.log.gate c.round.new.self.engine.log.gate
     (i.front_on told) (c.in_ok-round.ensures.front_on (i.site.still_told told))
+
+-- ---- the room that the log keeps free
+
+pub returns-in_err-round-clause-frugal : goal.returns-in_err-round-clause-frugal
+returns-in_err-round-clause-frugal g c =
+    let i = c.loop-done.invariant in
+    frugal_on c.args.self.now.engine c.loop-done.self.engine c.round.new.self.engine (ap (λ d. d.now) i.defs) i.frugal
+    c.round.ensures.frugal
+
+pub returns-then-not-branch-clause-frugal : goal.returns-then-not-branch-clause-frugal
+returns-then-not-branch-clause-frugal g c =
+    let i = c.loop-done.invariant in
+    frugal_on c.args.self.now.engine c.loop-done.self.engine c.round.new.self.engine (ap (λ d. d.now) i.defs) i.frugal
+    c.round.ensures.frugal

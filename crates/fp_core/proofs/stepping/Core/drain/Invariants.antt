@@ -2,12 +2,13 @@ use Rattle.std.proofs.Common.{◌≡◌, ◌-◌}
 use Rattle.fp_model.specs.Machine.{Machine}
 use Rattle.fp_site.specs.Moments.{Through}
 use Rattle.fp_site.specs.Site.{ReadsNothing}
-use Rattle.fp_source.specs.Lines.{fault_ahead}
+use Rattle.message_lines.specs.Lines.{fault_ahead}
 use Rattle.fp_source.specs.Source.{ReadsOnly}
 use Rattle.fp_source.specs.declared.part.Part.TheVariants as part
 use Rattle.fp_core.specs.Draining.{IsLeftByDrain}
 use Rattle.fp_core.specs.Fronts.{HoldsFronts, KeepsFronts}
 use Rattle.fp_core.specs.Relation.{rules_in}
+use Rattle.fp_core.specs.Rooms.{IsFrugal}
 use Rattle.fp_core.specs.inside.Rounding.{HasCome, NeedsFewer}
 use Rattle.fp_core.specs.Sparing.{IsLogSet, Spares}
 use Rattle.fp_core.specs.Standing.{Origin, StandsBeside}
@@ -41,6 +42,7 @@ invariant-loop-done g l = record {
   defs : l.self.engine.defs ≡ l.initial.self.engine.defs;
   scripts : l.self.engine.scripts ≡ l.initial.self.engine.scripts;
   router : l.self.router ≡ l.initial.self.router;
+  frugal : IsFrugal l.initial.self.engine l.self.engine;
   reads : ReadsNothing (g.T.Site.tells_reads l.initial.site) (g.T.Site.tells_reads l.site)
       (g.T.Site.bytes_read l.initial.site) (g.T.Site.bytes_read l.site);
   site_calm : g.T.Site.faults l.site ≡ g.T.Site.faults l.initial.site;

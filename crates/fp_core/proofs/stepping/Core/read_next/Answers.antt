@@ -1,6 +1,6 @@
 use Rattle.std.proofs.Common.{◌∙◌, ap, sym, refl, [], ◌∷◌}
 use Rattle.fp_model.specs.Messages.{lines_of}
-use Rattle.fp_source.specs.Lines.{lines_ahead}
+use Rattle.message_lines.specs.Lines.{lines_ahead}
 use Rattle.fp_source.specs.declared.part.Part.TheVariants as parts
 use Rattle.fp_core.specs.Relation.{rules_in}
 use Rattle.fp_core.proofs.Readings.{did_something, last_stepped, last_stepped_by, next_stepped, next_stepped_by, stands_before}

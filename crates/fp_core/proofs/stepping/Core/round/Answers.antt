@@ -12,6 +12,7 @@ use Rattle.fp_core.specs.inside.Rounding.{TookTurns, WentBeside, turns_of}
 use Rattle.fp_core.proofs.Comings.{before_log, came_off, in_region, in_stands, moments_log, stopped_in, stopped_log, stopped_region, turns_stand, went_on}
 use Rattle.fp_core.proofs.FrontLemmas.{fronts_from, fronts_none, holds_from, holds_none}
 use Rattle.fp_core.proofs.SparingLemmas.{spares_none}
+use Rattle.fp_core.proofs.RoomLemmas.{frugal_less, frugal_on}
 use Rattle.fp_core.proofs.Rounds.{if_err_from, makes_round}
 use Rattle.fp_core.proofs.stepping.Core.round.Goals as goal
 
@@ -208,3 +209,36 @@ returns-clause-front_on g c told =
     holds_from (g.T.Site.disk c.args.site.now) (g.T.Site.disk c.seal.new.site) c.args.self.now.engine.log.gate
     c.turn_each.new.self.log.gate c.seal.new.self.log.gate
     (c.turn_each.ensures.gate ∙ c.begin_round.ensures.gate) (c.in_ok-seal.ensures.front_on told)
+
+-- ---- the room that the log keeps free
+
+pub returns-in_err-begin_round-clause-frugal : goal.returns-in_err-begin_round-clause-frugal
+returns-in_err-begin_round-clause-frugal g c =
+    frugal_less c.args.self.now.engine c.begin_round.new.self.engine c.begin_round.ensures.most
+
+pub returns-then-not-branch-clause-frugal : goal.returns-then-not-branch-clause-frugal
+returns-then-not-branch-clause-frugal g c =
+    frugal_less c.args.self.now.engine c.begin_round.new.self.engine c.begin_round.ensures.most
+
+pub returns-in_err-turn_each-clause-frugal : goal.returns-in_err-turn_each-clause-frugal
+returns-in_err-turn_each-clause-frugal g c =
+    let first = c.args.self.now.engine in
+    let read = c.begin_round.new.self.engine in
+    frugal_on first read c.turn_each.new.self (ap (λ d. d.now) c.begin_round.ensures.defs)
+    (frugal_less first read c.begin_round.ensures.most) c.turn_each.ensures.frugal
+
+pub returns-in_err-seal-clause-frugal : goal.returns-in_err-seal-clause-frugal
+returns-in_err-seal-clause-frugal g c =
+    let first = c.args.self.now.engine in
+    let read = c.begin_round.new.self.engine in
+    let turned = frugal_on first read c.turn_each.new.self (ap (λ d. d.now) c.begin_round.ensures.defs)
+    (frugal_less first read c.begin_round.ensures.most) c.turn_each.ensures.frugal in
+    omega (arith, turned, c.seal.ensures.most)
+
+pub returns-clause-frugal : goal.returns-clause-frugal
+returns-clause-frugal g c =
+    let first = c.args.self.now.engine in
+    let read = c.begin_round.new.self.engine in
+    let turned = frugal_on first read c.turn_each.new.self (ap (λ d. d.now) c.begin_round.ensures.defs)
+    (frugal_less first read c.begin_round.ensures.most) c.turn_each.ensures.frugal in
+    omega (arith, turned, c.seal.ensures.most)

@@ -1,5 +1,5 @@
 use Rattle.std.specs.Prelude.{take}
-use Rattle.fp_restart.specs.Replayed.{HasNumbersOf}
+use Rattle.fp_restart.specs.inside.Replayed.{HasNumbersOf}
 use Rattle.fp_restart.proofs.numbers.Numbers.add.Given as goal
 
 -- the numbers of the entries so far are added
