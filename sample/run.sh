@@ -18,7 +18,7 @@ trap 'exit 130' INT TERM
 
 # What was proved and built since the last change is only run.
 if [ ! -x out/ims_fp ] || [ -n "$(find ../*/src ../*/specs ../*/proofs ../../crates.txt -newer out/ims_fp)" ]; then
-    say "proving and building the program. The first time this takes some 20 minutes on four processors; what the gate proved on this machine is taken as it is."
+    say "proving and building the program. The first time this takes some 18 minutes on four processors; what the gate proved on this machine is taken as it is."
     ../../scripts/prove ims_fp
 fi
 cp data/defs.toml data/scripts.txt data/schedule.txt data/messages.txt "$room"
